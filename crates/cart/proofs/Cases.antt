@@ -1,0 +1,33 @@
+-- The twelve marked cases, computed of the definitions. Assumes nothing.
+use mathlib.Core.Path.{refl}
+use Rattle.lists.specs.Lists.{fold, lowFirst}
+use Rattle.memory.specs.Memory.{erased, stored, filled}
+use Rattle.image.specs.Image.{imageLength, less, headerSum, headerChecksum}
+use Rattle.kind.specs.Kind.{begins, stands, detectSaveType}
+use Rattle.files.specs.SaveFit.{chipSize, saveFit}
+use Rattle.flash.specs.Flash.{stateAllowed}
+use Rattle.eeprom.specs.Eeprom.{widthAllowed, w, tells6, tells14, beginDma, dmaQuestion, shiftIn, opcodePhase, opcodeBit, writeBit, bitIn}
+use Rattle.cart.specs.ChipState.{phaseOf, chipBytes, chipOf, stateQuestions}
+use Rattle.cart.specs.Record.{recordAllowed, freshCart, fresh, fromBytes}
+use Rattle.cart.specs.Calls.{load, questions, accepted, step, restore}
+use Rattle.cart.specs.Gbatek.{calls}
+use Rattle.cart.specs.Cases.{Cases}
+use Rattle.cart.proofs.FlashCommands.{no-erase}
+
+pub cases-hold : Cases
+unfolding fold lowFirst erased stored filled imageLength less headerSum headerChecksum begins stands detectSaveType chipSize saveFit stateAllowed widthAllowed w tells6 tells14 beginDma dmaQuestion shiftIn opcodePhase opcodeBit writeBit phaseOf chipBytes chipOf stateQuestions recordAllowed freshCart fresh fromBytes bitIn load questions accepted step restore calls
+cases-hold =
+    record {
+      a = (refl, refl, refl);
+      b = (refl, refl);
+      c = (refl, refl);
+      d = (refl, refl);
+      e = (refl, refl);
+      f = refl;
+      g = refl;
+      h = (refl, refl);
+      i = no-erase;
+      j = refl;
+      k = (refl, refl);
+      l = refl;
+    }

@@ -1,0 +1,80 @@
+-- Every refusal number of the calls, and answers that no theorem speaks of, computed of the definitions. Assumes nothing.
+use mathlib.Core.Path.{_≡_, refl}
+use mathlib.Core.Bool.{true, false}
+use mathlib.Core.List.{List, [], _∷_, _++_}
+use Prim.Native.Nat.{ℕ}
+use lib.ListN.{replicate}
+use Rattle.lists.specs.Lists.{ascii, into, lowFirst}
+use Rattle.memory.specs.Memory.{erased, stored, filled}
+use Rattle.image.specs.Image.{imageLength}
+use Rattle.kind.specs.declared.SaveType.the-variants.{None}
+use Rattle.kind.specs.Kind.{begins, stands, detectSaveType}
+use Rattle.files.specs.SaveFit.{chipSize, eepromFit, saveFit, keptPart}
+use Rattle.flash.specs.Flash.{stateAllowed}
+use Rattle.eeprom.specs.Eeprom.{widthAllowed, w, readBit, afterRead}
+use Rattle.cart.specs.ChipState.{phaseOf, chipBytes, chipOf, stateQuestions}
+use Rattle.cart.specs.Record.{State, recordAllowed, freshCart, fresh, fromBytes}
+use Rattle.cart.specs.Calls.{saveRead, saveWrite, eepromWrite, eepromRead, saveData, chipState, takeSaveDirty, stateWith, readSave, writeSave, load, fileOf, questions, accepted, step, restore, importSave, usesEepromOf, eepromWindowStart}
+use Rattle.cart.specs.Cases.{plain, eeprom, chip, restored}
+
+-- a record whose flash state is 3, a memory of one byte too many, and both
+abbrev spoiled : State → State
+spoiled s = stateWith s false (record { flash = record { state = 3; bank = 0; id = false }; eeprom = s .cart .chip .eeprom }) (s .memory)
+
+abbrev longer : State → State
+longer s = stateWith s (s .cart .dirty) (s .cart .chip) (0 ∷ s .memory)
+
+abbrev sram : List ℕ
+sram = ascii "SRAM_V" ++ replicate 186 0
+
+record Refusals : Type 0 where
+  record2 : (step chipState [] (spoiled plain) .refusal ≡ 2) × (step takeSaveDirty [] (spoiled plain) .refusal ≡ 2) × (restore [] (spoiled plain) .refusal ≡ 2)
+  length2 : step chipState [] (record { cart = freshCart 191 None; memory = [] }) .refusal ≡ 2
+  memory3 : (step (saveRead 0) [] (longer plain) .refusal ≡ 3) × (step eepromRead [] (longer plain) .refusal ≡ 3) × (step saveData [] (longer plain) .refusal ≡ 3)
+  first : step (saveWrite 0 0) [] (longer (spoiled plain)) .refusal ≡ 2
+  open3 : fromBytes sram [] ≡ record { refusal = 3; given = []; flag = false; next = record { cart = freshCart 0 None; memory = [] }; destination = [] }
+  kind4 : step (eepromWrite 0) [] plain .refusal ≡ 4
+  state : (restored [] ≡ 6) × (restored (replicate 19 0) ≡ 6) × (restored (chip 9 0 0 0 0) ≡ 8) × (restored (chip 0 2 0 0 0) ≡ 9)
+  width10 : restored (replicate 3 0 ++ (7 ∷ replicate 14 0)) ≡ 10
+  room13 : step saveData (replicate 511 7) eeprom .refusal ≡ 13
+  import14 : importSave (replicate 513 0) eeprom .refusal ≡ 14
+
+refusals : Refusals
+unfolding lowFirst erased imageLength begins stands detectSaveType chipSize eepromFit saveFit keptPart stateAllowed widthAllowed w phaseOf chipBytes chipOf stateQuestions recordAllowed freshCart fresh fromBytes fileOf questions accepted step restore importSave
+refusals =
+    record {
+      record2 = (refl, refl, refl);
+      length2 = refl;
+      memory3 = (refl, refl, refl);
+      first = refl;
+      open3 = refl;
+      kind4 = refl;
+      state = (refl, refl, refl, refl);
+      width10 = refl;
+      room13 = refl;
+      import14 = refl;
+    }
+
+-- kind None reads FFh and has no file; the file of 512 bytes into a destination of 513; an import with its footer; a byte write to an
+-- EEPROM, which sets no flag; the flag taken; Reading on a kind without EEPROM
+record Answers : Type 0 where
+  none : (step (saveRead 5) [] plain .given ≡ 0xff ∷ []) × (step saveData (7 ∷ []) plain .given ≡ []) × (step saveData (7 ∷ []) plain .destination ≡ 7 ∷ [])
+  export : (step saveData (replicate 513 7) eeprom .given ≡ 512 ∷ []) × (step saveData (replicate 513 7) eeprom .destination ≡ replicate 512 0xff ++ (7 ∷ []))
+  imported : importSave (replicate 528 1) eeprom .given ≡ 512 ∷ []
+  byte : (step (saveWrite 8195 9) [] eeprom .next .cart .dirty ≡ false) × (step (saveRead 3) [] (step (saveWrite 8195 9) [] eeprom .next) .given ≡ 9 ∷ [])
+  taken : (step takeSaveDirty [] (stateWith plain true (plain .cart .chip) []) .flag ≡ true) × (step takeSaveDirty [] (stateWith plain true (plain .cart .chip) []) .next ≡ plain)
+  reading : (step eepromRead [] (restore (chip 0 0 6 0 0) plain .next) .given ≡ 0 ∷ []) × (step eepromRead [] (restore (replicate 5 0 ++ (6 ∷ (replicate 3 0 ++ (4 ∷ replicate 8 0)))) plain .next) .given ≡ 1 ∷ [])
+  window : (eepromWindowStart (freshCart 16777216 None) .value ≡ 0x0d000000) × (eepromWindowStart (freshCart 16777217 None) .value ≡ 0x0dffff00) × (usesEepromOf (plain .cart) .value ≡ 0) × (usesEepromOf (eeprom .cart) .value ≡ 1)
+
+answers : Answers
+unfolding into lowFirst erased stored filled imageLength begins stands detectSaveType chipSize eepromFit saveFit keptPart stateAllowed widthAllowed w readBit afterRead phaseOf chipBytes chipOf stateQuestions recordAllowed freshCart fresh fromBytes readSave writeSave load fileOf questions accepted step restore importSave usesEepromOf eepromWindowStart
+answers =
+    record {
+      none = (refl, refl, refl);
+      export = (refl, refl);
+      imported = refl;
+      byte = (refl, refl);
+      taken = (refl, refl);
+      reading = (refl, refl);
+      window = (refl, refl, refl, refl);
+    }

@@ -1,0 +1,111 @@
+-- A chip record's fields, tested one by one. Assumes nothing.
+use mathlib.Core.Path.{_≡_, refl, sym, _∙_}
+use mathlib.Core.Bool.{Bool, true, false, cond, _&&_}
+use mathlib.Core.List.{List}
+use Prim.Native.Nat.{ℕ, _+_, _*_, _/_, _%_, _≤_, _<_}
+use native.Mathlib.Omega.{arith}
+use lib.Dec.{ltb, leb, eqb}
+use lib.ListN.{length, getD, drop, length-drop}
+use lib.Seq.{take-all}
+use borrow.Author.Tests.{eqb-true, ltb-true, leb-true, le-leb}
+use Rattle.lists.specs.Lists.{lowFirst, lowValue}
+use Rattle.lists.specs.Questions.{asked}
+use Rattle.lists.proofs.Questions.{yes-all}
+use Rattle.lists.proofs.Bools.{cases, and-left, and-right}
+use Rattle.lists.proofs.Parts.{spelled, spells}
+use Rattle.image.specs.Image.{imageLength}
+use Rattle.flash.specs.Flash.{stateAllowed}
+use Rattle.eeprom.specs.Eeprom.{widthAllowed, w, wOf, countLimit}
+use Rattle.eeprom.proofs.Sound.{limit-64}
+use Rattle.cart.specs.declared.ChipRecord.{ChipRecord}
+use Rattle.cart.specs.ChipState.{chipBytes, stateQuestions}
+use Rattle.cart.specs.declared.Cartridge.{Cartridge}
+use Rattle.cart.specs.Record.{chipAllowed, recordAllowed}
+use Rattle.cart.proofs.ChipState.{phase-le, phase-back, bit-le, bit-back}
+
+-- an allowed count is at most 64
+w-le : (width : ℕ) (large : Bool) → widthAllowed width ≡ true → w width large ≤ 14
+unfolding widthAllowed w
+w-le width large e =
+    cases (eqb width 0) (λ z. rw z (small large))
+    (λ z. rw z (cases (eqb width 6) (λ s. omega (arith, eqb-true width 6 s)) (λ s. omega (arith, eqb-true width 14 (rw (z, s) at e)))))
+  where
+    small : (large : Bool) → cond large 14 6 ≤ 14
+    small true = omega arith
+    small false = omega arith
+
+-- the questions about state, flags, width, places and count, where the count's own limit tells that it is at most 64
+numbers : (s b w c k p l : Bool) → (w ≡ true → l ≡ true → c ≡ true)
+    → eqb (cond s (cond (b && true && true) (cond w (cond (c && k && p) (cond l 0 12) 11) 10) 9) 8) 0 ≡ s && (b && (w && (k && (p && l))))
+numbers false b w c k p l h = refl
+numbers true false w c k p l h = refl
+numbers true true false c k p l h = refl
+numbers true true true true false p l h = refl
+numbers true true true true true false l h = refl
+numbers true true true true true true false h = refl
+numbers true true true true true true true h = refl
+numbers true true true false k p true h = let z : _≡_ {A = Bool} false true = h refl refl in cc
+numbers true true true false false p false h = refl
+numbers true true true false true false false h = refl
+numbers true true true false true true false h = refl
+
+pub chip-fields : (c : ChipRecord)
+    → chipAllowed c
+    ≡ stateAllowed (c .flash .state)
+    && (leb (c .flash .bank) 1
+    && (widthAllowed (c .eeprom .width)
+    && (leb (c .eeprom .block) 1023 && (leb (c .eeprom .place) 67 && ltb (c .eeprom .count) (countLimit (c .eeprom .phase) (wOf (c .eeprom)))))))
+unfolding stateQuestions chipBytes lowFirst
+chip-fields c =
+    let e = c .eeprom in
+    let k : e .block % 256 + 256 * (e .block / 256) ≡ e .block = omega arith in
+    rw (phase-le (e .phase), bit-le (c .flash .id), bit-le (e .large), phase-back (e .phase), bit-back (e .large), k)
+    (numbers (stateAllowed (c .flash .state)) (leb (c .flash .bank) 1) (widthAllowed (e .width)) (leb (e .count) 64) (leb (e .block) 1023) (leb (e .place) 67)
+    (ltb (e .count) (countLimit (e .phase) (wOf e)))
+    (λ x y.
+    let m = limit-64 (e .phase) (wOf e) (e .count) (w-le (e .width) (e .large) x) (ltb-true (e .count) (countLimit (e .phase) (wOf e)) y) in
+    le-leb (e .count) 64 (omega arith)))
+
+-- bytes 10 to 17 of 18, as two numbers of four bytes
+pub acc-value : (b : List ℕ) → length b ≡ 18
+    → getD b 10 0 + 256 * (getD b 11 0 + 256 * (getD b 12 0 + 256 * getD b 13 0))
+    + 4294967296 * (getD b 14 0 + 256 * (getD b 15 0 + 256 * (getD b 16 0 + 256 * getD b 17 0)))
+    ≡ lowValue (drop 10 b)
+unfolding lowValue
+acc-value b n =
+    let l : length (drop 10 b) ≡ 8 = simp length-drop (omega arith) in
+    let d : drop 10 b ≡ spelled b 0 10 8 = sym (take-all 8 (drop 10 b) (omega arith)) ∙ spells b 0 8 10 (omega arith) in
+    rw d (omega arith)
+
+-- what an allowed record's fields are below
+pub record Bounds (c : ChipRecord) : Type 0 where
+  pub countOk : c .eeprom .count < 64
+  pub blockOk : c .eeprom .block < 1024
+  pub placeOk : c .eeprom .place < 68
+
+pub allowed-bounds : (c : Cartridge) → recordAllowed c ≡ true → Bounds (c .chip)
+unfolding recordAllowed
+allowed-bounds c h =
+    let e = c .chip .eeprom in
+    let l : Bool = ltb (e .count) (countLimit (e .phase) (wOf e)) in
+    let p : Bool = leb (e .place) 67 in
+    let k : Bool = leb (e .block) 1023 in
+    let w : Bool = widthAllowed (e .width) in
+    let b : Bool = leb (c .chip .flash .bank) 1 in
+    let s : Bool = stateAllowed (c .chip .flash .state) in
+    let y = sym (chip-fields (c .chip)) ∙ and-right (imageLength (c .len)) (chipAllowed (c .chip)) h in
+    let y3 = and-right b (w && (k && (p && l))) (and-right s (b && (w && (k && (p && l)))) y) in
+    let y4 = and-right w (k && (p && l)) y3 in
+    let y5 = and-right k (p && l) y4 in
+    record {
+      countOk =
+          limit-64 (e .phase) (wOf e) (e .count) (w-le (e .width) (e .large) (and-left w (k && (p && l)) y3))
+          (ltb-true (e .count) (countLimit (e .phase) (wOf e)) (and-right p l y5));
+      blockOk = omega (arith, leb-true (e .block) 1023 (and-left k (p && l) y4));
+      placeOk = omega (arith, leb-true (e .place) 67 (and-left p l y5));
+    }
+
+-- bytes that restore takes are 18
+pub state-18 : (b : List ℕ) → asked (stateQuestions b) ≡ 0 → length b ≡ 18
+unfolding stateQuestions
+state-18 b e = eqb-true (length b) 18 (yes-all (stateQuestions b) refl e .0)

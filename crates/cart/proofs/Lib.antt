@@ -1,0 +1,14 @@
+pub mod ChipState
+pub mod Fields
+pub mod Replies
+pub mod Sound
+pub mod Recoverable
+pub mod CutRuns
+pub mod Restore
+pub mod Flag
+pub mod Runs
+pub mod SramBytes
+pub mod FlashCommands
+pub mod SerialCommands
+pub mod Cases
+pub mod Examples

@@ -1,0 +1,50 @@
+-- A call's outcome, its questions answered. Assumes nothing.
+use mathlib.Core.Path.{_≡_, refl, sym, _∙_}
+use mathlib.Core.Logic.{_≢_}
+use mathlib.Core.Bool.{true, false}
+use mathlib.Core.List.{List, [], _∷_, _++_}
+use Prim.Native.Nat.{ℕ}
+use lib.Dec.{eqb}
+use borrow.Author.Tests.{ne-eqb, eqb-true}
+use Rattle.lists.specs.Questions.{Question, _else_, asked}
+use Rattle.lists.proofs.Questions.{AllYes, yes-all, asked-no, asked-yes}
+use Rattle.kind.specs.Kind.{memorySize}
+use Rattle.cart.specs.declared.Cartridge.{Cartridge}
+use Rattle.cart.specs.Calls.{Call, questions, accepted, step}
+use Rattle.cart.specs.Record.{State, Outcome, guarded, recordAllowed, recordQuestion, doorNumber}
+
+module _ (qs : List Question) (d : List ℕ) (s : State) (o : Outcome) where
+  -- the number is n
+  pub guarded-no : (n : ℕ) → n ≡ asked qs → n ≢ 0 → guarded qs d s o ≡ record { refusal = n; given = []; flag = false; next = s; destination = d }
+  guarded-no n e h = rw (← e, ne-eqb n 0 h)
+
+  -- or there is none
+  pub guarded-yes : (n : ℕ) → n ≡ asked qs → n ≡ 0 → guarded qs d s o ≡ o
+  guarded-yes n e h = rw (sym e ∙ h)
+
+-- of one of the nine calls
+module _ (q : Call) (d : List ℕ) (s : State) (n : ℕ) (e : n ≡ asked (questions q d s)) where
+  pub step-no : n ≢ 0 → step q d s ≡ record { refusal = n; given = []; flag = false; next = s; destination = d }
+  unfolding step
+  step-no h = guarded-no (questions q d s) d s (accepted q d s) n e h
+
+  pub step-yes : n ≡ 0 → step q d s ≡ accepted q d s
+  unfolding step
+  step-yes h = guarded-yes (questions q d s) d s (accepted q d s) n e h
+
+-- questions 2 and 3, with more behind them: answered no with the number k, or yes
+module _ (c : Cartridge) (n : ℕ) where
+  abbrev pub door : List Question
+  door = recordQuestion c ∷ eqb n (memorySize (c .kind)) else 3 ∷ []
+
+  pub door-no : (more : List Question) (k : ℕ) → k ≡ doorNumber c n → k ≢ 0 → k ≡ asked (door ++ more)
+  door-no more k e h = asked-no door more k e h
+
+  pub door-all : (k : ℕ) → k ≡ doorNumber c n → k ≡ 0 → AllYes door
+  door-all k e z = yes-all door refl (sym e ∙ z)
+
+  pub door-yes : (k : ℕ) → k ≡ doorNumber c n → k ≡ 0 → (recordAllowed c ≡ true) × (n ≡ memorySize (c .kind))
+  door-yes k e z = let y = door-all k e z in (y .0, eqb-true n (memorySize (c .kind)) (y .1 .0))
+
+  pub door-more : (more : List Question) (k : ℕ) → k ≡ doorNumber c n → k ≡ 0 → asked (door ++ more) ≡ asked more
+  door-more more k e z = asked-yes door more (door-all k e z)

@@ -1,0 +1,68 @@
+-- Calls one after the other, and what holds of every state that they reach. Assumes nothing.
+use mathlib.Core.Path.{_≡_, refl, sym, ap, subst, _∙_}
+use mathlib.Core.List.{List, [], _∷_, _++_, append-assoc}
+use mathlib.Core.Bool.{Bool, true, false, cond}
+use Prim.Native.Nat.{ℕ}
+use lib.Dec.{eqb}
+use Rattle.cart.specs.Record.{State, outcome, fromBytes}
+use Rattle.cart.specs.Calls.{Call, step}
+use Rattle.cart.specs.Gbatek.{Ran, andThen, ran, calls, Reached}
+use Rattle.cart.proofs.Sound.{Sound, opened, sound-fresh, sound-step}
+
+pub nothing : (s : State) → calls [] s ≡ ran [] s
+unfolding calls
+nothing s = refl
+
+-- an accepted call, then others
+pub then : (c : Call) (cs : List Call) (s : State) {g l : List ℕ} {t u : State} → step c [] s ≡ outcome g t [] → calls cs t ≡ ran l u → calls (c ∷ cs) s ≡ ran (g ++ l) u
+unfolding calls
+then c cs s p q = rw (p, q)
+
+-- two lists, one after the other
+first-by : (b : Bool) (x y z : ℕ) → eqb x 0 ≡ b → cond b (cond (eqb y 0) z y) x ≡ cond (eqb (cond b y x) 0) z (cond b y x)
+first-by true x y z e = refl
+first-by false x y z e = rw e
+
+then-then : (x y : ℕ) (g h : List ℕ) (r : Ran) → andThen x g (andThen y h r) ≡ andThen (cond (eqb x 0) y x) (g ++ h) r
+then-then x y g h r =
+    let p = first-by (eqb x 0) x y (r .refusal) refl in
+    let q : g ++ (h ++ r .given) ≡ g ++ h ++ r .given = sym (append-assoc g h (r .given)) in
+    λ i. record { refusal = p i; given = q i; last = r .last }
+
+calls-append : (xs ys : List Call) (s : State) → calls (xs ++ ys) s ≡ andThen (calls xs s .refusal) (calls xs s .given) (calls ys (calls xs s .last))
+unfolding calls
+calls-append [] ys s = refl
+calls-append (x ∷ xs) ys s =
+    let o = step x [] s in
+    let r = calls xs (o .next) in
+    ap (andThen (o .refusal) (o .given)) (calls-append xs ys (o .next)) ∙ then-then (o .refusal) (r .refusal) (o .given) (r .given) (calls ys (r .last))
+
+pub calls-then : (xs ys : List Call) (s : State) {g l : List ℕ} {t u : State} → calls xs s ≡ ran g t → calls ys t ≡ ran l u → calls (xs ++ ys) s ≡ ran (g ++ l) u
+calls-then xs ys s p q = calls-append xs ys s ∙ rw (p, q)
+
+-- every state that is reached is sound
+sound-calls : (cs : List Call) (s : State) → Sound s → Sound (calls cs s .last)
+unfolding calls
+sound-calls [] s k = k
+sound-calls (c ∷ cs) s k = sound-calls cs (step c [] s .next) (sound-step c [] s k)
+
+pub reached-sound : (s : State) → Reached s → Sound s
+reached-sound s r =
+    let e = opened (r .image) (r .memory) (r .opens) in
+    let f : Sound (fromBytes (r .image) (r .memory) .next) = rw e (sound-fresh (r .image) (r .memory) (r .opens)) in
+    subst Sound (r .leads) (sound-calls (r .list) (fromBytes (r .image) (r .memory) .next) f)
+
+-- and what calls reach from there is reached
+pub reached-on : (cs : List Call) (s : State) {g : List ℕ} {t : State} → Reached s → calls cs s ≡ ran g t → Reached t
+reached-on cs s {g} {t} r e =
+    let s0 : State = fromBytes (r .image) (r .memory) .next in
+    record {
+      image = r .image;
+      memory = r .memory;
+      list = r .list ++ cs;
+      opens = r .opens;
+      leads =
+          ap (λ (x : Ran). x .last) (calls-append (r .list) cs s0)
+          ∙ ap (λ (x : State). calls cs x .last) (r .leads)
+          ∙ ap (λ (x : Ran). x .last) e;
+    }

@@ -1,0 +1,104 @@
+-- What the machine makes of GBATEK's commands, from every state that a list of calls reaches from a fresh cartridge.
+use mathlib.Core.Path.{_≡_}
+use mathlib.Core.Bool.{Bool, true, false, cond}
+use mathlib.Core.List.{List, [], _∷_, _++_, map}
+use Prim.Native.Nat.{ℕ, _+_, _*_, _%_, _^_, _<_}
+use lib.Dec.{eqb}
+use lib.ListN.{getD, set, replicate}
+use Rattle.lists.specs.Lists.{digits, withPart}
+use Rattle.kind.specs.declared.SaveType.{SaveType}
+use Rattle.kind.specs.declared.SaveType.the-variants.{Flash64, Flash128}
+use Rattle.flash.specs.Flash.{flashRead}
+use Rattle.flash.specs.Gbatek as flash
+use Rattle.flash.specs.Gbatek.{Write, written, program, base}
+use Rattle.eeprom.specs.declared.EepromPhase.the-variants.{Opcode}
+use Rattle.eeprom.specs.Eeprom.{beginDma, serial}
+use Rattle.eeprom.specs.Gbatek as eeprom
+use Rattle.eeprom.specs.Gbatek.{bits, setAddress, writeBlock, bitsOfBytes, readOut, fed, drawn, drained, blockOf}
+use Rattle.cart.specs.Record.{State, fromBytes}
+use Rattle.cart.specs.Calls.{Call, saveRead, saveWrite, eepromBeginDma, eepromWrite, eepromRead, stateWith, flashOf, withFlash, eepromOf, withEeprom, withChip, step}
+
+-- calls, one after the other: the first refusal or 0, all that they answer, and the state behind the last
+pub record Ran : Type 0 where
+  pub refusal : ℕ
+  pub given : List ℕ
+  pub last : State
+
+abbrev pub andThen : ℕ → List ℕ → Ran → Ran
+andThen refusal given r =
+    record { refusal = cond (eqb refusal 0) (r .refusal) refusal; given = given ++ r .given; last = r .last }
+
+unfoldable pub calls : List Call → State → Ran
+calls [] s = record { refusal = 0; given = []; last = s }
+calls (c ∷ cs) s = let o = step c [] s in andThen (o .refusal) (o .given) (calls cs (o .next))
+
+-- all accepted
+abbrev pub ran : List ℕ → State → Ran
+ran given s = record { refusal = 0; given = given; last = s }
+
+pub record Reached (s : State) : Type 0 where
+  pub image : List ℕ
+  pub memory : List ℕ
+  pub list : List Call
+  pub opens : fromBytes image memory .refusal ≡ 0
+  pub leads : calls list (fromBytes image memory .next) .last ≡ s
+
+-- SRAM: "32 KiB at 0E000000h..0E007FFFh, 8-bit bus, plain byte reads and writes"
+abbrev pub bus : ℕ → ℕ
+bus a = 0x0e000000 + a
+
+pub record SramBytes (s : State) : Type 0 where
+  pub writeRead : (a v c : ℕ) → a < 32768 → c < 32768
+      → calls (saveWrite (bus a) v ∷ saveRead (bus c) ∷ []) s
+      ≡ ran (cond (eqb c a) v (getD (s .memory) c 0) ∷ []) (stateWith s true (s .cart .chip) (set (s .memory) a v))
+
+-- flash: "64K .. Panasonic 1B32h .. 128K Sanyo 1362h"
+pub data FlashPart : SaveType → ℕ → Type 0 where
+  panasonic64K : FlashPart Flash64 0x1b32
+  sanyo128K : FlashPart Flash128 0x1362
+
+abbrev pub writes : List Write → List Call
+writes = map (λ w. saveWrite (w .address) (w .value))
+
+-- every list of writes is accepted and does what it does to the chip; a byte read shows what the chip shows; where the chip awaits a
+-- command, `does` has what each command does to it, and a read gives what the last write stored
+pub record FlashCommands (word : ℕ) (s : State) : Type 0 where
+  pub accepts : (ws : List Write) → calls (writes ws) s ≡ ran [] (withFlash s (written ws (flashOf s)))
+  pub shows : (a : ℕ) → calls (saveRead a ∷ []) s ≡ ran (flashRead word (s .cart .chip .flash) (s .memory) a ∷ []) s
+  pub does : s .cart .chip .flash .state ≡ 0 → flash.Commands (flashOf s)
+  pub programRead : s .cart .chip .flash .state ≡ 0 → s .cart .chip .flash .id ≡ false → (a v c : ℕ) → a < 65536 → c < 65536
+      → calls (writes (program a v) ++ (saveRead (bus c) ∷ [])) s .given ≡ cond (eqb c a) v (getD (s .memory) (base (flashOf s) + c) 0) ∷ []
+
+-- serial EEPROM: every list of bits in, and any number of bits out, is accepted and does what it does to the chip
+pub record SerialBits (s : State) : Type 0 where
+  pub accepts : (vs : List ℕ) → calls (map eepromWrite vs) s ≡ ran [] (withEeprom s (fed vs (eepromOf s)))
+  pub gives : (n : ℕ) → calls (replicate n eepromRead) s
+      ≡ ran (drawn n (s .cart .chip .eeprom) (s .memory)) (withChip s (drained n (s .cart .chip .eeprom)))
+  pub idle : s .cart .chip .eeprom .phase ≡ Opcode → s .cart .chip .eeprom .count ≡ 0 → eeprom.Idle (s .cart .chip .eeprom)
+
+-- a command by DMA: the announcement of its halfwords, then its bits; "68 bits come out"
+abbrev pub write : ℕ → ℕ → ℕ → List Call
+write w block word = eepromBeginDma (w + 67) ∷ map eepromWrite (writeBlock w block word)
+
+abbrev pub read : ℕ → ℕ → List Call
+read w block = (eepromBeginDma (w + 3) ∷ map eepromWrite (setAddress w block)) ++ replicate 68 eepromRead
+
+-- the state behind a command: the flag, the halfwords told, the block named, the read place left, the memory
+abbrev pub behind : State → Bool → ℕ → ℕ → ℕ → List ℕ → State
+behind s dirty words block place memory =
+    withEeprom s (record { chip = serial (beginDma words (s .cart .chip .eeprom)) Opcode 0 block place 0; memory = memory; dirty = dirty })
+
+-- of a chip that awaits a command, at either width
+pub record SerialCommands (w : ℕ) (s : State) : Type 0 where
+  pub writes : (block word : ℕ) → block < 2 ^ w → word < 2 ^ 64
+      → calls (write w block word) s
+      ≡ ran [] (behind s true (w + 67) (block % 1024) (s .cart .chip .eeprom .place) (withPart (s .memory) (8 * (block % 1024)) (digits 256 8 word)))
+  pub reads : (block : ℕ) → block < 2 ^ w
+      → calls (read w block) s
+      ≡ ran (readOut (blockOf (s .memory) (block % 1024))) (behind s (s .cart .dirty) (w + 3) (block % 1024) 0 (s .memory))
+  -- a read gives what the last write stored, and other blocks are untouched
+  pub writeRead : (block word other : ℕ) → block < 2 ^ w → word < 2 ^ 64 → other < 2 ^ w
+      → calls (write w block word ++ read w other) s .given
+      ≡ replicate 4 0 ++ cond (eqb (block % 1024) (other % 1024)) (bits 64 word) (bitsOfBytes (blockOf (s .memory) (other % 1024)))
+  -- "reading then gives .. 1 when ready"
+  pub ready : calls (eepromRead ∷ []) s ≡ ran (1 ∷ []) s

@@ -1,0 +1,82 @@
+-- The cartridge record and its opening. Document 01, "The records", questions 2 and 3, and "The machine", Open.
+use mathlib.Core.Bool.{Bool, false, true, cond, _&&_}
+use mathlib.Core.List.{List, [], _∷_}
+use Prim.Native.Nat.{ℕ}
+use lib.Dec.{eqb}
+use lib.ListN.{length}
+use Rattle.lists.specs.Questions.{Question, _else_, asked}
+use Rattle.memory.specs.Memory.{erased}
+use Rattle.image.specs.Image.{imageLength, imageQuestion}
+use Rattle.kind.specs.declared.SaveType.{SaveType}
+use Rattle.kind.specs.declared.SaveType.the-variants.{None}
+use Rattle.kind.specs.Kind.{byKind, memorySize, detectSaveType}
+use Rattle.eeprom.specs.declared.EepromPhase.the-variants.{Opcode}
+use Rattle.cart.specs.declared.ChipRecord.{ChipRecord}
+use Rattle.cart.specs.declared.Cartridge.{Cartridge}
+use Rattle.cart.specs.ChipState.{chipBytes, stateQuestions}
+
+-- a cartridge record with the memory that is lent beside it
+pub record State : Type 0 where
+  pub cart : Cartridge
+  pub memory : List ℕ
+
+-- what a call returns and leaves: the number of a refusal or 0, the numbers that it answers, the answer of `take_save_dirty`,
+-- record and memory, and the destination that it was lent
+pub record Outcome : Type 0 where
+  pub refusal : ℕ
+  pub given : List ℕ
+  pub flag : Bool
+  pub next : State
+  pub destination : List ℕ
+
+-- "A no returns the number, the record as given, all buffers unchanged"
+abbrev pub guarded : List Question → List ℕ → State → Outcome → Outcome
+guarded qs d s o = cond (eqb (asked qs) 0) o (record { refusal = asked qs; given = []; flag = false; next = s; destination = d })
+
+abbrev pub outcome : List ℕ → State → List ℕ → Outcome
+outcome given s d = record { refusal = 0; given = given; flag = false; next = s; destination = d }
+
+-- 2: "Is the record's image length in that range and each chip field allowed?": the 18 bytes are such as restore takes
+abbrev pub chipAllowed : ChipRecord → Bool
+chipAllowed chip = eqb (asked (stateQuestions (chipBytes chip))) 0
+
+unfoldable pub recordAllowed : Cartridge → Bool
+recordAllowed c = imageLength (c .len) && chipAllowed (c .chip)
+
+abbrev pub recordQuestion : Cartridge → Question
+recordQuestion c = recordAllowed c else 2
+
+-- 3: "Has the save memory its kind's length?"
+abbrev pub memoryQuestion : SaveType → List ℕ → Question
+memoryQuestion kind memory = eqb (length memory) (memorySize kind) else 3
+
+-- what 2 and 3 answer for a memory of n bytes
+abbrev pub doorNumber : Cartridge → ℕ → ℕ
+doorNumber c n = asked (recordQuestion c ∷ eqb n (memorySize (c .kind)) else 3 ∷ [])
+
+-- "flag and chip record 0, large 1 for Eeprom8k only"
+abbrev pub freshChip : Bool → ChipRecord
+freshChip large =
+    record {
+      flash = record { state = 0; bank = 0; id = false };
+      eeprom = record { width = 0; large = large; phase = Opcode; count = 0; block = 0; place = 0; acc = 0 };
+    }
+
+abbrev pub isLarge : SaveType → Bool
+isLarge kind = byKind kind false false false false false true
+
+unfoldable pub freshCart : ℕ → SaveType → Cartridge
+freshCart n kind = record { len = n; kind = kind; dirty = false; chip = freshChip (isLarge kind) }
+
+-- Open (`from_bytes`): "Memory all FFh"; "A fresh cartridge is what an accepted opening gives."
+unfoldable pub fresh : List ℕ → State
+fresh image =
+    record { cart = freshCart (length image) (detectSaveType image); memory = erased (memorySize (detectSaveType image)) }
+
+-- "opening, given none, returns one of kind None with all else 0"
+abbrev pub openQuestions : List ℕ → List ℕ → List Question
+openQuestions image memory = imageQuestion image ∷ memoryQuestion (detectSaveType image) memory ∷ []
+
+unfoldable pub fromBytes : List ℕ → List ℕ → Outcome
+fromBytes image memory =
+    guarded (openQuestions image memory) [] (record { cart = freshCart 0 None; memory = memory }) (outcome [] (fresh image) [])

@@ -1,0 +1,46 @@
+-- How a call returns what the machine answers: a refusal's number or 0, one number or 0, and the record; what it is lent is left as the
+-- machine leaves it.
+use mathlib.Core.Bool.{Bool}
+use mathlib.Core.List.{List, [], _∷_}
+use Prim.Native.Nat.{ℕ}
+use Rattle.flash.specs.declared.Flash.{Flash}
+use Rattle.eeprom.specs.declared.Eeprom.{Eeprom}
+use Rattle.cart.specs.declared.ChipRecord.{ChipRecord}
+use Rattle.cart.specs.declared.Cartridge.{Cartridge}
+use Rattle.cart.specs.declared.Reply.{Reply}
+use Rattle.cart.specs.ChipState.{bit}
+use Rattle.cart.specs.Record.{State, Outcome}
+
+abbrev pub state : Cartridge → List ℕ → State
+state cart memory = record { cart = cart; memory = memory }
+
+abbrev pub chipRecord : Flash → Eeprom → ChipRecord
+chipRecord flash eeprom = record { flash = flash; eeprom = eeprom }
+
+abbrev pub cartWith : Cartridge → Bool → ChipRecord → Cartridge
+cartWith c dirty chip = record { len = c .len; kind = c .kind; dirty = dirty; chip = chip }
+
+abbrev pub done : ℕ → Cartridge → Reply
+done value cart = record { refusal = 0; value = value; cart = cart }
+
+abbrev pub refused : ℕ → Cartridge → Reply
+refused number cart = record { refusal = number; value = 0; cart = cart }
+
+-- the number that a call answers; 0 stands for none
+abbrev pub first : List ℕ → ℕ
+first [] = 0
+first (n ∷ l) = n
+
+abbrev pub replyOf : Outcome → Reply
+replyOf o = record { refusal = o .refusal; value = first (o .given); cart = o .next .cart }
+
+-- with the memory, and with the destination that the call was lent
+abbrev pub replied : Outcome → Reply × List ℕ
+replied o = (replyOf o, o .next .memory)
+
+abbrev pub exportReplied : Outcome → Reply × List ℕ
+exportReplied o = (replyOf o, o .destination)
+
+-- of `take_save_dirty`
+abbrev pub flagReplied : Outcome → Reply × List ℕ
+flagReplied o = (record { refusal = o .refusal; value = bit (o .flag); cart = o .next .cart }, o .next .memory)

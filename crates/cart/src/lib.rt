@@ -1,0 +1,138 @@
+// The cartridge: its records, their 18 bytes, the questions at the door, and in specs/ the machine of document 01.
+
+mod questions;
+mod state_bytes;
+
+use eeprom::Eeprom;
+use eeprom::EepromPhase;
+use flash::Flash;
+use kind::SaveType;
+pub use questions::door;
+pub use questions::record_allowed;
+pub use state_bytes::chip_bytes;
+pub use state_bytes::chip_of;
+pub use state_bytes::state_questions;
+ghost use mathlib.Core.Path.{_≡_};
+ghost use Rattle.cart.specs.ChipState.{bit as bit·spec};
+ghost use Rattle.cart.specs.Record.{freshChip, isLarge, freshCart};
+ghost use Rattle.cart.specs.Replies.{done as done·spec, refused, chipRecord, cartWith};
+
+// The 18 bytes of `chip_state`.
+pub struct ChipRecord {
+    pub flash: Flash,
+    pub eeprom: Eeprom,
+}
+
+pub struct Cartridge {
+    // the image's length
+    pub len: usize,
+    pub kind: SaveType,
+    // the changed flag
+    pub dirty: bool,
+    pub chip: ChipRecord,
+}
+
+// What a call returns: the number of a refusal or 0, the number that it answers or 0, and the record.
+pub struct Reply {
+    pub refusal: u8,
+    pub value: u32,
+    pub cart: Cartridge,
+}
+
+pub fn bit(b: bool) -> u8
+    ensures { λ r. ⌜ r ≡ bit·spec b ⌝ }
+{
+    if b { 1 } else { 0 }
+}
+
+pub fn done(value: u32, cart: Cartridge) -> Reply
+    ensures { λ r. ⌜ r ≡ done·spec value cart ⌝ }
+{
+    Reply {
+        refusal: 0,
+        value: value,
+        cart: cart,
+    }
+}
+
+// The record as given.
+pub fn refuse(number: u8, cart: Cartridge) -> Reply
+    ensures { λ r. ⌜ r ≡ refused number cart ⌝ }
+{
+    Reply {
+        refusal: number,
+        value: 0,
+        cart: cart,
+    }
+}
+
+pub fn cart_with(cart: Cartridge, dirty: bool, chip: ChipRecord) -> Cartridge
+    ensures { λ r. ⌜ r ≡ cartWith cart dirty chip ⌝ }
+{
+    let mut next = cart;
+    next.dirty = dirty;
+    next.chip = chip;
+    next
+}
+
+// The record with another flag, and another flash chip or EEPROM.
+pub fn with_flash(cart: Cartridge, dirty: bool, flash: Flash) -> Cartridge
+    ensures { λ r. ⌜ r ≡ cartWith cart dirty (chipRecord flash (cart .chip .eeprom)) ⌝ }
+{
+    let mut chip = cart.chip;
+    chip.flash = flash;
+    cart_with(cart, dirty, chip)
+}
+
+pub fn with_eeprom(cart: Cartridge, dirty: bool, eeprom: Eeprom) -> Cartridge
+    ensures { λ r. ⌜ r ≡ cartWith cart dirty (chipRecord (cart .chip .flash) eeprom) ⌝ }
+{
+    let mut chip = cart.chip;
+    chip.eeprom = eeprom;
+    cart_with(cart, dirty, chip)
+}
+
+fn fresh_chip(large: bool) -> ChipRecord
+    ensures { λ r. ⌜ r ≡ freshChip large ⌝ }
+{
+    ChipRecord {
+        flash: Flash {
+            state: 0,
+            bank: 0,
+            id: false,
+        },
+        eeprom: Eeprom {
+            width: 0,
+            large: large,
+            phase: EepromPhase::Opcode,
+            count: 0,
+            block: 0,
+            place: 0,
+            acc: 0,
+        },
+    }
+}
+
+fn is_large(kind: SaveType) -> bool
+    ensures { λ r. ⌜ r ≡ isLarge kind ⌝ }
+{
+    match kind {
+        SaveType::Eeprom8k => true,
+        SaveType::None => false,
+        SaveType::Sram => false,
+        SaveType::Flash64 => false,
+        SaveType::Flash128 => false,
+        SaveType::Eeprom512 => false,
+    }
+}
+
+pub fn fresh_cart(len: usize, kind: SaveType) -> Cartridge
+    ensures { λ r. ⌜ r ≡ freshCart len kind ⌝ }
+{
+    Cartridge {
+        len: len,
+        kind: kind,
+        dirty: false,
+        chip: fresh_chip(is_large(kind)),
+    }
+}

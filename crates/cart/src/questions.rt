@@ -1,0 +1,59 @@
+// Questions 2 and 3.
+use crate::Cartridge;
+use crate::ChipRecord;
+use eeprom::count_limit;
+use eeprom::w;
+use eeprom::width_allowed;
+use flash::state_allowed;
+use image::image_length;
+use kind::memory_size;
+ghost use mathlib.Core.Path.{_≡_};
+ghost use Rattle.cart.specs.Record.{chipAllowed, recordAllowed, doorNumber};
+
+fn chip_allowed(chip: ChipRecord) -> bool
+    ensures { λ r. ⌜ r ≡ chipAllowed chip ⌝ }
+{
+    let flash = chip.flash;
+    let e = chip.eeprom;
+    let phase = e.phase;
+    if !state_allowed(flash.state) {
+        return false;
+    }
+    if 1 < flash.bank {
+        return false;
+    }
+    if !width_allowed(e.width) {
+        return false;
+    }
+    if 1023 < e.block {
+        return false;
+    }
+    if 67 < e.place {
+        return false;
+    }
+    e.count < count_limit(phase, w(e.width, e.large))
+}
+
+pub fn record_allowed(cart: Cartridge) -> bool
+    ensures { λ r. ⌜ r ≡ recordAllowed cart ⌝ }
+{
+    if !image_length(cart.len) {
+        return false;
+    }
+    let chip = cart.chip;
+    chip_allowed(chip)
+}
+
+// Questions 2 and 3 of a record with a memory of n bytes: the first number that applies, or 0.
+pub fn door(cart: Cartridge, n: usize) -> u8
+    ensures { λ r. ⌜ r ≡ doorNumber cart n ⌝ }
+{
+    if !record_allowed(cart) {
+        return 2;
+    }
+    let kind = cart.kind;
+    if n != memory_size(kind) {
+        return 3;
+    }
+    0
+}

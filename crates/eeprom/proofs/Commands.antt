@@ -1,0 +1,174 @@
+-- GBATEK's serial commands. Assumes nothing.
+use mathlib.Core.Path.{_≡_, refl, sym, ap, subst, _∙_}
+use mathlib.Core.Logic.{_≢_}
+use mathlib.Core.Bool.{Bool, true, cond}
+use mathlib.Core.List.{List, [], _∷_, _++_}
+use Prim.Native.Nat.{ℕ, zero, suc, _+_, _*_, _-_, _/_, _%_, _^_, _≤_, _<_}
+use native.Mathlib.Nat.{add-zero, mod-mod, div-one, div-eq-of-lt}
+use native.Mathlib.Numerals.{add-one}
+use native.Mathlib.Omega.{arith}
+use lib.Dec.{ltb}
+use lib.ListN.{length, take, drop}
+use lib.Pow.{pow-mono}
+use borrow.Author.Tests.{eq-eqb, ne-eqb}
+use Rattle.lists.specs.Lists.{digits, withPart}
+use Rattle.lists.proofs.Digits.{shift-digit}
+use Rattle.lists.proofs.Parts.{spelled, spells}
+use Rattle.memory.specs.Memory.{Held, stored}
+use Rattle.eeprom.specs.declared.EepromPhase.{EepromPhase}
+use Rattle.eeprom.specs.declared.EepromPhase.the-variants.{Opcode, ReadAddress, WriteAddress, WriteData, ReadStop, WriteStop, Reading}
+use Rattle.eeprom.specs.declared.Eeprom.{Eeprom}
+use Rattle.eeprom.specs.Eeprom.{w as widthOf, wOf, tells6, tells14, beginDma, serial, shiftIn, opcodePhase, opcodeBit, addressBit, dataBit, writeBitIn, writeBit, bitIn, bitOfBlock, readBit, afterRead}
+use Rattle.eeprom.specs.Gbatek.{bits, setAddress, writeBlock, bitsOfBytes, readOut, fed, drawn, drained, Idle, held, Width, six, fourteen, blockOf, Commands, Abandons}
+
+fed-append : (xs ys : List ℕ) (x : Held Eeprom) → fed (xs ++ ys) x ≡ fed ys (fed xs x)
+unfolding fed
+fed-append [] ys x = refl
+fed-append (v ∷ xs) ys x = fed-append xs ys (bitIn x v)
+
+-- the phases that collect bits: phase, length
+data Taking (w : ℕ) : EepromPhase → ℕ → Type 0 where
+  opcode : Taking w Opcode 2
+  readAt : Taking w ReadAddress w
+  writeAt : Taking w WriteAddress w
+  word : Taking w WriteData 64
+
+module _ (e : Eeprom) where
+  abbrev at : EepromPhase → ℕ → ℕ → ℕ → ℕ → List ℕ → Bool → Held Eeprom
+  at p n k r a m d = held (serial e p n k r a) m d
+
+  -- the chip behind the last bit of each
+  abbrev full : {p : EepromPhase} {n : ℕ} → Taking (wOf e) p n → ℕ → ℕ → ℕ → List ℕ → Bool → Held Eeprom
+  full opcode k r a m d = at (opcodePhase a) 0 k r 0 m d
+  full readAt k r a m d = at ReadStop 0 (a % 1024) r 0 m d
+  full writeAt k r a m d = at WriteData 0 (a % 1024) r 0 m d
+  full word k r a m d = at WriteStop 0 k r 0 (withPart m (8 * k) (digits 256 8 a)) true
+
+  more : {p : EepromPhase} {z : ℕ} → Taking (wOf e) p z → (n k r a : ℕ) (m : List ℕ) (d : Bool) (v : ℕ) → n + 1 ≢ z
+      → bitIn (at p n k r a m d) v ≡ at p (n + 1) k r ((2 * a + v % 2) % 2 ^ 64) m d
+  unfolding bitIn writeBit opcodeBit addressBit dataBit shiftIn stored
+  more opcode n k r a m d v h = rw (ne-eqb (n + 1) 2 h)
+  more readAt n k r a m d v h = rw (ne-eqb (n + 1) (wOf e) h)
+  more writeAt n k r a m d v h = rw (ne-eqb (n + 1) (wOf e) h)
+  more word n k r a m d v h = rw (ne-eqb (n + 1) 64 h)
+
+  last : {p : EepromPhase} {z : ℕ} (t : Taking (wOf e) p z) (n k r a : ℕ) (m : List ℕ) (d : Bool) (v : ℕ) → n + 1 ≡ z
+      → bitIn (at p n k r a m d) v ≡ full t k r ((2 * a + v % 2) % 2 ^ 64) m d
+  unfolding bitIn writeBit opcodeBit addressBit dataBit shiftIn stored
+  last opcode n k r a m d v h = rw (eq-eqb (n + 1) 2 h)
+  last readAt n k r a m d v h = rw (eq-eqb (n + 1) (wOf e) h)
+  last writeAt n k r a m d v h = rw (eq-eqb (n + 1) (wOf e) h)
+  last word n k r a m d v h = rw (eq-eqb (n + 1) 64 h)
+
+  -- with n + 1 bits of y still to come, acc holds those above them
+  collects : {p : EepromPhase} {z : ℕ} (t : Taking (wOf e) p z) (n j y k r : ℕ) (m : List ℕ) (d : Bool) → j + suc n ≡ z → y < 2 ^ 64
+      → fed (bits (suc n) y) (at p j k r (y / 2 ^ suc n) m d) ≡ full t k r y m d
+  unfolding digits fed
+  collects t zero j y k r m d q h =
+      last t j k r (y / 2 ^ 1) m d (y / 2 ^ 0 % 2) (omega arith) ∙ rw (mod-mod (y / 2 ^ 0) 2, shift-digit y 0 h, div-one y)
+  collects t (suc n) j y k r m d q h =
+      ap (fed (bits (suc n) y))
+      (more t j k r (y / 2 ^ suc (suc n)) m d (y / 2 ^ suc n % 2) (omega arith) ∙ rw (mod-mod (y / 2 ^ suc n) 2, shift-digit y (suc n) h))
+      ∙ collects t n (j + 1) y k r m d (omega arith) h
+
+  -- a whole phase, from its start
+  phase : {p : EepromPhase} {n : ℕ} (t : Taking (wOf e) p n) (y k r : ℕ) (m : List ℕ) (d : Bool) → 0 < n → n ≤ 64 → y < 2 ^ n
+      → fed (bits n y) (at p 0 k r 0 m d) ≡ full t k r y m d
+  phase {p} {n} t y k r m d h0 h hy =
+      let q : suc (n - 1) ≡ n = omega arith in
+      rw (div-eq-of-lt hy) at
+      (subst (λ (i : ℕ). fed (bits i y) (at p 0 k r (y / 2 ^ i) m d) ≡ full t k r y m d) q
+      (collects t (n - 1) 0 y k r m d (omega arith) (omega (arith, pow-mono h))))
+
+  opens-read : (k r : ℕ) (m : List ℕ) (d : Bool) → fed (1 ∷ 1 ∷ []) (at Opcode 0 k r 0 m d) ≡ at ReadAddress 0 k r 0 m d
+  unfolding digits opcodePhase
+  opens-read k r m d = phase opcode 3 k r m d (omega arith) (omega arith) (omega arith)
+
+  opens-write : (k r : ℕ) (m : List ℕ) (d : Bool) → fed (1 ∷ 0 ∷ []) (at Opcode 0 k r 0 m d) ≡ at WriteAddress 0 k r 0 m d
+  unfolding digits opcodePhase
+  opens-write k r m d = phase opcode 2 k r m d (omega arith) (omega arith) (omega arith)
+
+  whole-write : (block y k r : ℕ) (m : List ℕ) (d : Bool) → 0 < wOf e → wOf e ≤ 64 → block < 2 ^ wOf e → y < 2 ^ 64
+      → fed (writeBlock (wOf e) block y) (at Opcode 0 k r 0 m d) ≡ at Opcode 0 (block % 1024) r 0 (withPart m (8 * (block % 1024)) (digits 256 8 y)) true
+  unfolding writeBlock fed bitIn writeBit stored
+  whole-write block y k r m d h0 h hb hy =
+      fed-append (1 ∷ 0 ∷ []) (bits (wOf e) block ++ (bits 64 y ++ (0 ∷ []))) (at Opcode 0 k r 0 m d)
+      ∙ ap (fed (bits (wOf e) block ++ (bits 64 y ++ (0 ∷ [])))) (opens-write k r m d)
+      ∙ fed-append (bits (wOf e) block) (bits 64 y ++ (0 ∷ [])) (at WriteAddress 0 k r 0 m d)
+      ∙ ap (fed (bits 64 y ++ (0 ∷ []))) (phase writeAt block k r m d h0 h hb)
+      ∙ fed-append (bits 64 y) (0 ∷ []) (at WriteData 0 (block % 1024) r 0 m d)
+      ∙ ap (fed (0 ∷ [])) (phase word y (block % 1024) r m d (omega arith) (omega arith) hy)
+
+  whole-address : (block k r : ℕ) (m : List ℕ) (d : Bool) → 0 < wOf e → wOf e ≤ 64 → block < 2 ^ wOf e
+      → fed (setAddress (wOf e) block) (at Opcode 0 k r 0 m d) ≡ at Reading 0 (block % 1024) 0 0 m d
+  unfolding setAddress fed bitIn writeBit stored
+  whole-address block k r m d h0 h hb =
+      fed-append (1 ∷ 1 ∷ []) (bits (wOf e) block ++ (0 ∷ [])) (at Opcode 0 k r 0 m d)
+      ∙ ap (fed (bits (wOf e) block ++ (0 ∷ []))) (opens-read k r m d)
+      ∙ fed-append (bits (wOf e) block) (0 ∷ []) (at ReadAddress 0 k r 0 m d)
+      ∙ ap (fed (0 ∷ [])) (phase readAt block k r m d h0 h hb)
+
+  -- bits out
+  abbrev outs : List ℕ → ℕ → ℕ → ℕ → List ℕ
+  outs m k p zero = []
+  outs m k p (suc n) = cond (ltb p 4) 0 (bitOfBlock m k (p - 4)) ∷ outs m k (suc p) n
+
+  draws : (n p k : ℕ) (m : List ℕ) → p + n ≡ 68 → drawn n (serial e Reading 0 k p 0) m ≡ outs m k p n
+  unfolding drawn readBit afterRead
+  draws zero p k m q = refl
+  draws (suc zero) p k m q = refl
+  draws (suc (suc n)) p k m q =
+      rw (ne-eqb p 67 (omega arith), add-one p) (ap (λ (l : List ℕ). cond (ltb p 4) 0 (bitOfBlock m k (p - 4)) ∷ l) (draws (suc n) (suc p) k m (omega arith)))
+
+  drains : (n p k : ℕ) → p + suc n ≡ 68 → drained (suc n) (serial e Reading 0 k p 0) ≡ serial e Opcode 0 k 0 0
+  unfolding drained afterRead
+  drains zero p k q = rw (eq-eqb p 67 (omega arith))
+  drains (suc n) p k q = rw (ne-eqb p 67 (omega arith), add-one p) (drains n (suc p) k (omega arith))
+
+  outs-by : (m : List ℕ) (k : ℕ) → outs m k 0 68 ≡ readOut (spelled m (8 * k) 0 8)
+  unfolding readOut bitsOfBytes digits bitOfBlock
+  outs-by m k = refl
+
+block-spelled : (m : List ℕ) (k : ℕ) → 8 * k + 8 ≤ length m → blockOf m k ≡ spelled m (8 * k) 0 8
+block-spelled m k h = subst (λ (q : ℕ). take 8 (drop q m) ≡ spelled m (8 * k) 0 8) (add-zero (8 * k)) (spells m (8 * k) 8 0 (omega arith))
+
+idle-at : (e : Eeprom) → Idle e → e ≡ serial e Opcode 0 (e .block) (e .place) 0
+idle-at e i = λ j. serial e (i .phase0 j) (i .count0 j) (e .block) (e .place) (i .acc0 j)
+
+width-in : {w : ℕ} → Width w → (0 < w) × (w ≤ 64)
+width-in six = omega arith
+width-in fourteen = omega arith
+
+told-write : {w : ℕ} → Width w → (e : Eeprom) → wOf (beginDma (w + 67) e) ≡ w
+unfolding beginDma tells6 tells14 widthOf
+told-write six e = refl
+told-write fourteen e = refl
+
+told-read : {w : ℕ} → Width w → (e : Eeprom) → wOf (beginDma (w + 3) e) ≡ w
+unfolding beginDma tells6 tells14 widthOf
+told-read six e = refl
+told-read fourteen e = refl
+
+pub commands : (w : ℕ) → Width w → (e : Eeprom) → Idle e → Commands w e
+commands w x e i =
+    let r : Eeprom = serial e Opcode 0 (e .block) (e .place) 0 in
+    record {
+      writes = λ block y m d q hb hy.
+          ap (λ (c : Eeprom). fed (writeBlock w block y) (held c m d)) (idle-at e i)
+          ∙ subst (λ (z : ℕ). fed (writeBlock z block y) (held r m d) ≡ held (serial e Opcode 0 (block % 1024) (e .place) 0) (withPart m (8 * (block % 1024)) (digits 256 8 y)) true) q
+          (whole-write e block y (e .block) (e .place) m d (rw q (width-in x .0)) (rw q (width-in x .1)) (rw q hb) hy);
+      addresses = λ block m d q hb.
+          ap (λ (c : Eeprom). fed (setAddress w block) (held c m d)) (idle-at e i)
+          ∙ subst (λ (z : ℕ). fed (setAddress z block) (held r m d) ≡ held (serial e Reading 0 (block % 1024) 0 0) m d) q
+          (whole-address e block (e .block) (e .place) m d (rw q (width-in x .0)) (rw q (width-in x .1)) (rw q hb));
+      reads = λ block m h.
+          let k : ℕ = block % 1024 in
+          draws e 68 0 k m refl ∙ outs-by e m k ∙ ap readOut (sym (block-spelled m k h));
+      ends = λ block. drains e 67 0 block refl;
+      announcesWrite = told-write x e;
+      announcesRead = told-read x e;
+    }
+
+pub abandons : (e : Eeprom) → e .phase ≡ Reading → Abandons e
+unfolding writeBit
+abandons e p = record { begins = λ b. ap (λ (q : EepromPhase). writeBitIn q e b) p }

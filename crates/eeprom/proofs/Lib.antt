@@ -1,0 +1,4 @@
+pub mod Sound
+pub mod Bits
+pub mod Commands
+pub mod Fits

@@ -1,0 +1,2 @@
+pub mod Eeprom
+pub mod Gbatek

@@ -1,0 +1,129 @@
+// `load_save`, `save_data` and import: the file calls.
+
+use cart::Cartridge;
+use cart::Reply;
+use cart::done;
+use cart::door;
+use cart::refuse;
+use cart::with_eeprom;
+use eeprom::told;
+use files::SaveFit;
+use files::kept_part;
+use files::save_fit;
+use kind::SaveType;
+use kind::uses_eeprom;
+use lists::copy;
+ghost use mathlib.Core.Path.{_≡_};
+ghost use mathlib.Core.Bool.{_||_, _&&_};
+ghost use mathlib.Core.List.{[]};
+ghost use lib.Dec.{ltb};
+ghost use lib.ListN.{length};
+ghost use Rattle.kind.specs.Kind.{memorySize, usesEeprom};
+ghost use Rattle.files.specs.SaveFit.{saveFit, taken};
+ghost use Rattle.cart.specs.Calls.{loadSave, saveData, load as load·spec, importSave, step};
+ghost use Rattle.cart.specs.Replies.{state, replied, exportReplied};
+ghost use Rattle.file_calls.specs.Files.{eepromLength, fileLength};
+
+// Whether the chip is large behind a file of n bytes.
+fn large_behind(large: bool, kind: SaveType, n: usize) -> bool
+    ensures { λ r. ⌜ r ≡ (large || usesEeprom kind && ltb 512 n) ⌝ }
+{
+    if large {
+        return true;
+    }
+    if !uses_eeprom(kind) {
+        return false;
+    }
+    512 < n
+}
+
+// A file loaded, all questions answered yes.
+fn load(cart: Cartridge, memory: &mut [u8], file: &[u8]) -> Cartridge
+    requires { ⌜ length (now memory) ≡ memorySize (cart .kind) ⌝ }
+    ensures { λ r. ⌜ state r (now (memory .exit)) ≡ load·spec (state cart (now (memory .entry))) (now (file .entry)) ⌝ }
+{
+    let kind = cart.kind;
+    let chip = cart.chip;
+    let e = chip.eeprom;
+    memory::load(memory, file);
+    with_eeprom(
+        cart,
+        cart.dirty,
+        told(e.width, large_behind(e.large, kind, file.len()), e),
+    )
+}
+
+pub fn load_save(cart: Cartridge, memory: &mut [u8], file: &[u8]) -> Reply
+    ensures { λ r. ⌜ (r, now (memory .exit)) ≡ replied (step (loadSave (now (file .entry))) [] (state cart (now (memory .entry)))) ⌝ }
+{
+    let refusal = door(cart, memory.len());
+    if refusal != 0 {
+        return refuse(refusal, cart);
+    }
+    done(0, load(cart, memory, file))
+}
+
+// How long the file is that a kind leaves: 0 where there is none.
+fn file_length(kind: SaveType, large: bool) -> usize
+    ensures { λ r. ⌜ r ≡ fileLength kind large ⌝ }
+{
+    match kind {
+        SaveType::None => 0,
+        SaveType::Sram => 32768,
+        SaveType::Flash64 => 65536,
+        SaveType::Flash128 => 131072,
+        SaveType::Eeprom512 => eeprom_length(large),
+        SaveType::Eeprom8k => eeprom_length(large),
+    }
+}
+
+fn eeprom_length(large: bool) -> usize
+    ensures { λ r. ⌜ r ≡ eepromLength large ⌝ }
+{
+    if large { 8192 } else { 512 }
+}
+
+// The file goes to the front of the destination; the answer is its length, and 0 where the kind has none.
+pub fn save_data(cart: Cartridge, memory: &[u8], destination: &mut [u8]) -> Reply
+    ensures { λ r. ⌜ (r, now (destination .exit)) ≡ exportReplied (step saveData (now (destination .entry)) (state cart (now (memory .entry)))) ⌝ }
+{
+    let refusal = door(cart, memory.len());
+    if refusal != 0 {
+        return refuse(refusal, cart);
+    }
+    let kind = cart.kind;
+    let chip = cart.chip;
+    let e = chip.eeprom;
+    let n = file_length(kind, e.large);
+    if destination.len() < n {
+        return refuse(13, cart);
+    }
+    copy(destination, &memory[..n]);
+    done(n as u32, cart)
+}
+
+// A file of a length that `save_fit` takes, its footer cut off; the answer is the length of what is kept.
+pub fn import_save(cart: Cartridge, memory: &mut [u8], file: &[u8]) -> Reply
+    ensures { λ r. ⌜ (r, now (memory .exit)) ≡ replied (importSave (now (file .entry)) (state cart (now (memory .entry)))) ⌝ }
+{
+    let refusal = door(cart, memory.len());
+    if refusal != 0 {
+        return refuse(refusal, cart);
+    }
+    let kind = cart.kind;
+    if !takes(kind, file.len()) {
+        return refuse(14, cart);
+    }
+    let part = kept_part(kind, file);
+    done(part.len() as u32, load(cart, memory, part))
+}
+
+fn takes(kind: SaveType, n: usize) -> bool
+    ensures { λ r. ⌜ r ≡ taken (saveFit kind n) ⌝ }
+{
+    let fit = save_fit(kind, n);
+    match fit {
+        SaveFit::Keeps(_) => true,
+        SaveFit::Refused => false,
+    }
+}

@@ -1,0 +1,4 @@
+pub mod Bools
+pub mod Questions
+pub mod Digits
+pub mod Parts

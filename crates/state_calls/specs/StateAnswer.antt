@@ -1,0 +1,16 @@
+-- How `chip_state` returns what the machine answers: the number of a refusal and zeros, or 0 and the 18 bytes; the record stays.
+use mathlib.Core.List.{List, [], _∷_}
+use Prim.Native.Nat.{ℕ}
+use lib.ListN.{replicate}
+use Rattle.cart.specs.Record.{State, Outcome}
+use Rattle.state_calls.specs.declared.StateAnswer.{StateAnswer}
+
+abbrev pub stateAnswer : ℕ → List ℕ → StateAnswer
+stateAnswer refusal bytes = record { refusal = refusal; bytes = bytes }
+
+abbrev pub orZeros : List ℕ → List ℕ
+orZeros [] = replicate 18 0
+orZeros (b ∷ l) = b ∷ l
+
+abbrev pub stateAnswered : Outcome → StateAnswer × State
+stateAnswered o = (stateAnswer (o .refusal) (orZeros (o .given)), o .next)

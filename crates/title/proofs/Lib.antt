@@ -1,0 +1,4 @@
+pub mod Answers
+pub mod Sequences
+pub mod Texts
+pub mod Examples

@@ -1,0 +1,1 @@
+// The frames of the program carttrace, as definitions in specs/.
