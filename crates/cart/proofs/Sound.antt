@@ -13,7 +13,7 @@ use Rattle.lists.specs.Questions.{asked}
 use Rattle.lists.proofs.Bools.{split}
 use Rattle.lists.proofs.Questions.{AllYes, numbered, all-yes, yes-all}
 use Rattle.memory.specs.declared.Store.the-variants.{Byte}
-use Rattle.memory.specs.Memory.{stored}
+use Rattle.memory.specs.Memory.{stored, erased}
 use Rattle.memory.proofs.Memory.{length-erased, length-block, length-sector, length-filled}
 use Rattle.image.specs.Image.{imageLength}
 use Rattle.kind.specs.declared.SaveType.{SaveType}
@@ -180,12 +180,17 @@ pub opened : (image memory : List ℕ) → fromBytes image memory .refusal ≡ 0
 unfolding fromBytes
 opened image memory h = rw (opened-yes image memory h)
 
-pub sound-fresh : (image memory : List ℕ) → fromBytes image memory .refusal ≡ 0 → Sound (fresh image)
-unfolding fresh freshCart stateAllowed
-sound-fresh image memory h =
+pub sound-kind : (n : ℕ) (kind : SaveType) → imageLength n ≡ true → Sound (record { cart = freshCart n kind; memory = erased (memorySize kind) })
+unfolding freshCart stateAllowed
+sound-kind n kind h =
     record {
-      lenOk = yes-all (openQuestions image memory) refl (opened-yes image memory h) .0;
-      memoryOk = length-erased (memorySize (detectSaveType image));
+      lenOk = h;
+      memoryOk = length-erased (memorySize kind);
       flashOk = record { stateOk = refl; bankOk = omega arith };
       eepromOk = eeprom.sound-fresh _;
     }
+
+pub sound-fresh : (image memory : List ℕ) → fromBytes image memory .refusal ≡ 0 → Sound (fresh image)
+unfolding fresh
+sound-fresh image memory h =
+    sound-kind (length image) (detectSaveType image) (yes-all (openQuestions image memory) refl (opened-yes image memory h) .0)

@@ -1,11 +1,11 @@
 -- The frames of `carttrace`. Document 01, "Beside the machine".
 use mathlib.Core.Bool.{Bool, true, false, cond, _&&_}
-use mathlib.Core.List.{List, [], _∷_}
+use mathlib.Core.List.{List, [], _∷_, _++_}
 use mathlib.Core.Option.{Option, none, some}
 use Prim.Native.Nat.{ℕ, _+_, _*_, _/_, _%_, _^_}
 use lib.Dec.{ltb, eqb}
 use lib.ListN.{length}
-use Rattle.hex.specs.Hex.{valueOf}
+use Rattle.hex.specs.Hex.{valueOf, hex}
 use Rattle.kind.specs.declared.SaveType.the-variants.{None, Sram, Flash64, Eeprom512, Eeprom8k}
 use Rattle.frames.specs.declared.Frame.{Frame}
 use Rattle.frames.specs.declared.Frame.the-variants.{SaveRead, SaveWrite, EepromRead, EepromWrite, BeginDma, TakeFlag, ChipState, Bad}
@@ -37,26 +37,26 @@ unfoldable pub frameOf : ℕ → ℕ → Frame
 frameOf n x =
     cond (eqb n 10) (tenDigits x) (cond (eqb n 12) (twelveDigits x) (cond (eqb n 2) (twoDigits x) (cond (eqb n 6) (sixDigits x) Bad)))
 
-abbrev pub framed : ℕ → Option ℕ → Frame
-framed n none = Bad
-framed n (some x) = frameOf n x
-
--- "a bad line (any that is not exactly one of these frames), an empty one included"
-unfoldable pub frame : List ℕ → Frame
-frame line = framed (length line) (numberFrom 0 line)
-
 -- "Line 1 is a fresh kind with image length 192: 00 None, 01 Sram, 02 Flash64, 04 Eeprom512, 05 Eeprom8k"
-unfoldable pub kindOf : ℕ → FirstLine
-kindOf x =
+unfoldable pub freshOf : ℕ → FirstLine
+freshOf x =
     cond (eqb x 0) (Fresh None)
     (cond (eqb x 1) (Fresh Sram) (cond (eqb x 2) (Fresh Flash64) (cond (eqb x 4) (Fresh Eeprom512) (cond (eqb x 5) (Fresh Eeprom8k) NoKind))))
 
-abbrev pub kinded : Option ℕ → FirstLine
-kinded none = NoKind
-kinded (some x) = kindOf x
+abbrev pub firstOf : ℕ → ℕ → FirstLine
+firstOf n x = cond (eqb n 2) (freshOf x) NoKind
+
+-- a line that is digits throughout, by how many there are and their number
+abbrev pub numbered : {A : Type 0} → (ℕ → ℕ → A) → A → ℕ → Option ℕ → A
+numbered of bad n none = bad
+numbered of bad n (some x) = of n x
+
+-- "a bad line (any that is not exactly one of these frames), an empty one included"
+unfoldable pub frame : List ℕ → Frame
+frame line = numbered frameOf Bad (length line) (numberFrom 0 line)
 
 unfoldable pub firstLine : List ℕ → FirstLine
-firstLine line = cond (eqb (length line) 2) (kinded (numberFrom 0 line)) NoKind
+firstLine line = numbered firstOf NoKind (length line) (numberFrom 0 line)
 
 -- a line as it comes in, character by character: how many digits it has and their number, as long as it may be a frame
 abbrev pub lineWith : Bool → ℕ → ℕ → Line
@@ -75,8 +75,15 @@ unfoldable pub pushedAll : Line → List ℕ → Line
 pushedAll l [] = l
 pushedAll l (c ∷ text) = pushedAll (pushed l c) text
 
-unfoldable pub frameIn : Line → Frame
-frameIn l = cond (l .good) (frameOf (l .count) (l .value)) Bad
+abbrev pub readIn : {A : Type 0} → (ℕ → ℕ → A) → A → Line → A
+readIn of bad l = cond (l .good) (of (l .count) (l .value)) bad
 
-unfoldable pub firstIn : Line → FirstLine
-firstIn l = cond (l .good && eqb (l .count) 2) (kindOf (l .value)) NoKind
+abbrev pub frameIn : Line → Frame
+frameIn l = readIn frameOf Bad l
+
+abbrev pub firstIn : Line → FirstLine
+firstIn l = readIn firstOf NoKind l
+
+-- a line that is printed: "00 and the answer .., or the refusal number as two hexadecimal digits"
+unfoldable pub lineOf : ℕ → List ℕ → List ℕ
+lineOf status bytes = hex (status ∷ bytes) ++ (0x0a ∷ [])

@@ -1,9 +1,12 @@
-// The frames of carttrace: what a line says.
+// The lines of carttrace: what a line in says, and a line out.
+
+mod print;
 
 use hex::value_of;
 use kind::SaveType;
+pub use print::print_line;
 ghost use mathlib.Core.Path.{_≡_};
-ghost use Rattle.frames.specs.Frames.{tenDigits, twelveDigits, twoDigits, sixDigits, frameOf, kindOf, lineWith, emptyLine, pushed, frameIn, firstIn};
+ghost use Rattle.frames.specs.Frames.{tenDigits, twelveDigits, twoDigits, sixDigits, frameOf, freshOf, firstOf, lineWith, emptyLine, pushed, frameIn, firstIn};
 
 pub enum Frame {
     // address
@@ -85,8 +88,8 @@ fn frame_of(n: usize, x: u64) -> Frame
     }
 }
 
-fn kind_of(x: u64) -> FirstLine
-    ensures { λ r. ⌜ r ≡ kindOf x ⌝ }
+fn fresh_of(x: u64) -> FirstLine
+    ensures { λ r. ⌜ r ≡ freshOf x ⌝ }
 {
     match x {
         0 => FirstLine::Fresh(SaveType::None),
@@ -96,6 +99,15 @@ fn kind_of(x: u64) -> FirstLine
         5 => FirstLine::Fresh(SaveType::Eeprom8k),
         _ => FirstLine::NoKind,
     }
+}
+
+fn first_of(n: usize, x: u64) -> FirstLine
+    ensures { λ r. ⌜ r ≡ firstOf n x ⌝ }
+{
+    if n == 2 {
+        return fresh_of(x);
+    }
+    FirstLine::NoKind
 }
 
 fn line_with(good: bool, count: u8, value: u64) -> Line
@@ -143,11 +155,8 @@ pub fn frame_in(l: Line) -> Frame
 pub fn first_in(l: Line) -> FirstLine
     ensures { λ r. ⌜ r ≡ firstIn l ⌝ }
 {
-    if !l.good {
-        return FirstLine::NoKind;
+    if l.good {
+        return first_of(l.count as usize, l.value);
     }
-    if l.count != 2 {
-        return FirstLine::NoKind;
-    }
-    kind_of(l.value)
+    FirstLine::NoKind
 }

@@ -14,4 +14,4 @@ valueOf c = cond (leb 0x30 c && leb c 0x39) (c - 0x30) (cond (leb 0x41 c && leb 
 -- a byte as two digits
 unfoldable pub hex : List ℕ → List ℕ
 hex [] = []
-hex (b ∷ bytes) = character (b / 16) ∷ character (b % 16) ∷ hex bytes
+hex (b ∷ bytes) = character (b / 16 % 16) ∷ character (b % 16) ∷ hex bytes

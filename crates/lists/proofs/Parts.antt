@@ -57,6 +57,32 @@ pub copy-all : (i : ℕ) (f d : List ℕ) → i ≡ length f → take i f ++ dro
 unfolding into
 copy-all i f d e = rw (e, take-length f)
 
+-- one more byte of the output, and more output behind the first
+pub put-next : (xs m : List ℕ) (e a : ℕ) → e ≡ length xs → e < length m → set (into xs m) e a ≡ into (xs ++ (a ∷ [])) m
+unfolding into
+put-next [] [] e a h k = absurd (omega arith)
+put-next [] (y ∷ m) e a h k = rw h
+put-next (x ∷ xs) [] e a h k = absurd (omega arith)
+put-next (x ∷ xs) (y ∷ m) zero a h k = absurd (omega arith)
+put-next (x ∷ xs) (y ∷ m) (suc e) a h k = ap (λ (l : List ℕ). x ∷ l) (put-next xs m e a (omega arith) (omega arith))
+
+pub into-more : (xs ys m : List ℕ) (n : ℕ) → n ≡ length xs → n ≤ length m → take n (into xs m) ++ into ys (drop n (into xs m)) ≡ into (xs ++ ys) m
+unfolding into
+into-more [] ys m n h k = rw h
+into-more (x ∷ xs) ys [] n h k = absurd (omega arith)
+into-more (x ∷ xs) ys (y ∷ m) zero h k = absurd (omega arith)
+into-more (x ∷ xs) ys (y ∷ m) (suc n) h k = ap (λ (l : List ℕ). x ∷ l) (into-more xs ys m n (omega arith) (omega arith))
+
+pub into-again : (xs ys m : List ℕ) → length xs ≤ length m → into (xs ++ ys) (into xs m) ≡ into (xs ++ ys) m
+unfolding into
+into-again [] ys m h = refl
+into-again (x ∷ xs) ys [] h = absurd (omega arith)
+into-again (x ∷ xs) ys (y ∷ m) h = ap (λ (l : List ℕ). x ∷ l) (into-again xs ys m (omega arith))
+
+pub length-into : (xs m : List ℕ) → length xs ≤ length m → length (into xs m) ≡ length m
+unfolding into
+length-into xs m h = simp (length-append, length-drop) (omega arith)
+
 -- the output is what stands at the destination's front
 pub front-of : (f d : List ℕ) → take (length f) (into f d) ≡ f
 unfolding into

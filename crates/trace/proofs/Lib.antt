@@ -1,1 +1,6 @@
+pub mod Answers
 pub mod Examples
+pub mod Feeding
+pub mod Heard
+pub mod Short
+pub mod Whole

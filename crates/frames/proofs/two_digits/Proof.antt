@@ -1,22 +1,16 @@
 use borrow.Author.Tests.{ne-eqb}
 use Rattle.frames.proofs.two_digits.Statement.{statement}
 use Rattle.frames.proofs.two_digits.Tie as tie
-use Rattle.frames.proofs.two_digits.Reads as reads
-use Rattle.frames.proofs.two_digits.Lts as lts
 
--- src/lib.rt:77:1
 returns : tie.Need-returns
 returns c = rw (c .match .keys1)
 
--- src/lib.rt:77:1
 returns-2 : tie.Need-returns-2
 returns-2 c = rw (c .match .keys2)
 
--- src/lib.rt:77:1
 returns-3 : tie.Need-returns-3
 returns-3 c = rw (c .match .keys3)
 
--- src/lib.rt:77:1
 returns-4 : tie.Need-returns-4
 returns-4 c =
     rw (

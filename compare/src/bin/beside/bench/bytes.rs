@@ -1,0 +1,82 @@
+//! Time per image, file and erase.
+
+use super::{row, used};
+use crate::part::Part;
+use crate::part_image;
+use compare::files::file;
+use compare::images::{image, of_kind, LARGEST};
+use compare::kind::{self, MEMORY};
+use compare::original;
+use std::hint::black_box;
+
+pub fn rows() {
+    images();
+    files();
+    erases();
+}
+
+/// 32 MiB with the marker near the end, where most stand. The original's opening takes the CRC too.
+fn images() {
+    for (name, marker) in [("SRAM_V", "SRAM_V"), ("EEPROM_V", "EEPROM_V"), ("no marker", "")] {
+        let image = image(LARGEST, 7, LARGEST - 64, marker.as_bytes());
+        let memory = MEMORY[usize::from(original::detect_save_type(&image))];
+        row(
+            &format!("opening, 32 MiB, {name}"),
+            1,
+            || used(original::open(&image)),
+            || used(Part::open(&image, memory)),
+        );
+        row(
+            &format!("opening and CRC, 32 MiB, {name}"),
+            1,
+            || used(original::open(&image)),
+            || used((Part::open(&image, memory), part_image::rom_crc(&image))),
+        );
+        row(
+            &format!("kind, 32 MiB, {name}"),
+            1,
+            || used(original::detect_save_type(&image)),
+            || used(part_image::detect_save_type(&image)),
+        );
+    }
+    let image = image(LARGEST, 7, 0, b"");
+    row("CRC, 32 MiB", 1, || used(original::crc32(&image)), || used(part_image::rom_crc(&image)));
+}
+
+fn files() {
+    for (name, kind) in [("Sram", kind::SRAM), ("Flash128", kind::FLASH128), ("Eeprom512", kind::EEPROM512)] {
+        let image = of_kind(kind);
+        let mut cart = original::open(&image).expect("an image of an allowed length");
+        let length = MEMORY[usize::from(kind)];
+        let (_, mut part) = Part::open(&image, length);
+        let file = file(length as u32, 3);
+        let mut destination = vec![0; length];
+        row(
+            &format!("load, {name}, {length} bytes"),
+            1,
+            || original::load_save(&mut cart, black_box(&file)),
+            || used(part.load_save(black_box(&file))),
+        );
+        row(
+            &format!("export, {name}, {length} bytes"),
+            1,
+            || used(original::save_data(&cart)),
+            || used(part.save_data(black_box(&mut destination))),
+        );
+    }
+}
+
+fn erases() {
+    for (name, last) in [("sector erase, Flash128", 0x30), ("chip erase, Flash128", 0x10)] {
+        let image = of_kind(kind::FLASH128);
+        let mut cart = original::open(&image).expect("an image of an allowed length");
+        let (_, mut part) = Part::open(&image, MEMORY[usize::from(kind::FLASH128)]);
+        let command = [0xAA, 0x55, 0x80, 0xAA, 0x55, last];
+        row(
+            name,
+            1,
+            || command.iter().for_each(|value| original::save_write(&mut cart, 0x5555, *value)),
+            || command.iter().for_each(|value| used(part.save_write(0x5555, *value))),
+        );
+    }
+}

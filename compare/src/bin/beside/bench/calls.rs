@@ -1,0 +1,151 @@
+//! Time per call.
+
+use super::{calls, row, used, values, BATCH};
+use crate::part::Part;
+use crate::part_image;
+use crate::side::Side;
+use compare::call::Call;
+use compare::commands::{set_address, write_block};
+use compare::images::{image, of_kind};
+use compare::kind::{self, Kind, MEMORY};
+use compare::original::{self, Cartridge};
+use compare::records::{serial, with_block, Chip};
+use std::hint::black_box;
+
+pub fn rows() {
+    reads();
+    writes();
+    bits();
+    states();
+    images();
+}
+
+/// A cartridge on both sides, with the chip record given.
+fn open(kind: Kind, chip: Chip) -> (Cartridge, Part) {
+    let image = of_kind(kind);
+    let mut cart = original::open(&image).expect("an image of an allowed length");
+    original::restore(&mut cart, &chip).expect("an allowed record");
+    let (_, mut part) = Part::open(&image, MEMORY[usize::from(kind)]);
+    part.restore(&chip);
+    (cart, part)
+}
+
+fn reads() {
+    let mut id_mode = [0; 18];
+    id_mode[2] = 1;
+    for (name, kind, chip) in [
+        ("byte read, None", kind::NONE, [0; 18]),
+        ("byte read, Sram", kind::SRAM, [0; 18]),
+        ("byte read, Flash64", kind::FLASH64, [0; 18]),
+        ("byte read, Flash128", kind::FLASH128, [0; 18]),
+        ("byte read, Flash128 in ID mode", kind::FLASH128, id_mode),
+        ("byte read, Eeprom512", kind::EEPROM512, [0; 18]),
+    ] {
+        let (cart, part) = open(kind, chip);
+        calls(name, |i| used(original::save_read(&cart, i * 37)), |i| used(part.save_read(i * 37)));
+    }
+}
+
+fn writes() {
+    for (name, kind, command) in [
+        ("byte write, None", kind::NONE, &[0x12][..]),
+        ("byte write, Sram", kind::SRAM, &[0x12]),
+        ("byte write, Eeprom512", kind::EEPROM512, &[0x12]),
+        ("byte write, flash state 0", kind::FLASH128, &[0x12]),
+        ("byte write, flash states 0 1", kind::FLASH128, &[0xAA, 0x12]),
+        ("byte write, flash states 0 1 2 (ID mode off)", kind::FLASH128, &[0xAA, 0x55, 0xF0]),
+        ("byte write, flash states 0 1 2 4 (program)", kind::FLASH128, &[0xAA, 0x55, 0xA0, 0x12]),
+        ("byte write, flash states 0 1 2 5 (bank)", kind::FLASH128, &[0xAA, 0x55, 0xB0, 0x01]),
+        ("byte write, flash states 0 1 2 6 7", kind::FLASH128, &[0xAA, 0x55, 0x80, 0xAA, 0x12]),
+        ("byte write, flash states 0 1 2 6 7 8 (no erase)", kind::FLASH128, &[0xAA, 0x55, 0x80, 0xAA, 0x55, 0x12]),
+    ] {
+        let (mut cart, mut part) = open(kind, [0; 18]);
+        let commands = command.repeat(BATCH as usize / 8);
+        values(
+            name,
+            &commands,
+            |value| original::save_write(&mut cart, 0x5555, value),
+            |value| used(part.save_write(0x5555, value)),
+        );
+    }
+}
+
+/// The bits of a command, many times over, without its DMA length.
+fn stream(command: Vec<Call>) -> Vec<u16> {
+    let bit = |call: &Call| match call {
+        Call::BitIn(value) => Some(*value),
+        _ => None,
+    };
+    command.repeat(50).iter().filter_map(bit).collect()
+}
+
+fn bits() {
+    let (mut cart, mut part) = open(kind::EEPROM512, [0; 18]);
+    for words in [17, 68] {
+        calls(
+            &format!("DMA {words}"),
+            |_| original::eeprom_begin_dma(&mut cart, black_box(words)),
+            |_| used(part.eeprom_begin_dma(black_box(words))),
+        );
+    }
+    for (name, command) in [
+        ("serial bit in, writes of 81 bits", write_block(14, 100, 0x0123_4567_89AB_CDEF)),
+        ("serial bit in, addresses of 17 bits", set_address(14, 100)),
+    ] {
+        values(
+            name,
+            &stream(command),
+            |bit| original::eeprom_write(&mut cart, bit),
+            |bit| used(part.eeprom_write(bit)),
+        );
+    }
+    let reading = with_block(serial(14, 1, 6, 0), 100);
+    row(
+        "serial bit out, 68 behind each restore",
+        68,
+        || {
+            used(original::restore(&mut cart, &reading));
+            (0..68).for_each(|_| used(original::eeprom_read(&mut cart)));
+        },
+        || {
+            used(part.restore(&reading));
+            (0..68).for_each(|_| used(part.eeprom_read()));
+        },
+    );
+    calls("serial bit out, idle", |_| used(original::eeprom_read(&mut cart)), |_| used(part.eeprom_read()));
+}
+
+fn states() {
+    let accepted = with_block(serial(14, 1, 3, 40), 100);
+    let refused = serial(14, 1, 3, 64);
+    let (mut cart, mut part) = open(kind::EEPROM512, accepted);
+    for (name, chip) in [("restore", accepted), ("restore, refused", refused)] {
+        calls(
+            name,
+            |_| used(original::restore(&mut cart, black_box(&chip))),
+            |_| used(part.restore(black_box(&chip))),
+        );
+    }
+    calls("chip state", |_| used(original::chip_state(&cart)), |_| used(part.chip_state()));
+    calls("take the flag", |_| used(original::take_save_dirty(&mut cart)), |_| used(part.take_save_dirty()));
+    calls("window start", |_| used(original::eeprom_window_start(&cart)), |_| used(part.eeprom_window_start()));
+}
+
+fn images() {
+    let image = image(BATCH as usize, 7, 0xA0, b"POKEMON RUBY");
+    let cart = original::open(&image).expect("an image of an allowed length");
+    calls("image read, 8 bits", |i| used(original::read(&cart, i)), |i| used(part_image::read(&image, i)));
+    calls("image read, 16 bits", |i| used(original::read16(&cart, i)), |i| used(part_image::read16(&image, i)));
+    calls("image read, 32 bits", |i| used(original::read32(&cart, i)), |i| used(part_image::read32(&image, i)));
+    calls(
+        "header check",
+        |_| used(original::header_checksum(black_box(&image))),
+        |_| used(part_image::header_checksum(black_box(&image))),
+    );
+    let mut title = [0; 36];
+    calls(
+        "title",
+        |_| used(original::title(black_box(&image))),
+        |_| used(part_image::title(black_box(&image), black_box(&mut title))),
+    );
+}

@@ -1,0 +1,6 @@
+//! The parts of a run that leave nothing out.
+
+pub mod files;
+pub mod flash;
+pub mod records;
+pub mod serial;

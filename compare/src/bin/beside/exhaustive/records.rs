@@ -1,0 +1,45 @@
+//! Restores: every byte with every value, every two fields around their limits, and every serial position.
+
+use crate::pair::Pair;
+use compare::call::Call;
+use compare::records::{serial, with_acc, with_block, Chip, FIELDS};
+
+pub fn compare(pair: &mut Pair) {
+    pair.at(format!("restores, kind {}", pair.kind()));
+    for phase in 0..7 {
+        let base = with_acc(with_block(serial(0, 0, phase, 0), 321), 0x0102_0304_0506_0708);
+        every_byte(pair, &base);
+        every_two_fields(pair, &base);
+    }
+    every_position(pair);
+}
+
+fn every_byte(pair: &mut Pair, base: &Chip) {
+    for at in 0..base.len() {
+        for value in 0..=255 {
+            let mut chip = *base;
+            chip[at] = value;
+            pair.call(Call::Restore(chip));
+        }
+    }
+}
+
+fn every_two_fields(pair: &mut Pair, base: &Chip) {
+    for (number, first) in FIELDS.iter().enumerate() {
+        for second in &FIELDS[number + 1..] {
+            for a in first.limits {
+                pair.calls(second.limits.iter().map(|b| Call::Restore(second.set(&first.set(base, *a), *b))));
+            }
+        }
+    }
+}
+
+fn every_position(pair: &mut Pair) {
+    for width in 0..16 {
+        for large in 0..3 {
+            for phase in 0..8 {
+                pair.calls((0..67).map(|count| Call::Restore(serial(width, large, phase, count))));
+            }
+        }
+    }
+}

@@ -1,0 +1,74 @@
+//! Runs the original and the part beside each other and compares them.
+
+mod abi;
+mod bench;
+mod exhaustive;
+mod images;
+mod original;
+mod pair;
+mod part;
+mod part_image;
+mod random_lists;
+mod run;
+mod side;
+
+use compare::images::of_kind;
+use compare::kind;
+use pair::Pair;
+use run::{Fault, Run};
+
+const USAGE: &str = "usage: beside [--seed HEX] [--fault rust | --fault part], or beside bench";
+
+fn main() {
+    if std::env::args().nth(1).as_deref() == Some("bench") {
+        bench::run();
+    } else {
+        beside(arguments());
+    }
+}
+
+fn beside(mut run: Run) {
+    println!("beside: seed {:X}", run.seed);
+    for kind in kind::ALL {
+        cartridges(&mut run, kind);
+    }
+    images::compare(&mut run);
+    run.clear_line();
+    println!("beside: no difference in {} calls, {:.0} s", run.calls, run.seconds());
+}
+
+fn arguments() -> Run {
+    let (mut seed, mut fault) = (1, Fault::None);
+    let mut words = std::env::args().skip(1);
+    while let Some(word) = words.next() {
+        match (word.as_str(), words.next().as_deref()) {
+            ("--seed", Some(digits)) => seed = u64::from_str_radix(digits, 16).unwrap_or_else(|_| usage()),
+            ("--fault", Some("rust")) => fault = Fault::Rust,
+            ("--fault", Some("part")) => fault = Fault::Part,
+            _ => usage(),
+        }
+    }
+    Run::new(seed, fault)
+}
+
+fn usage() -> ! {
+    eprintln!("{USAGE}");
+    std::process::exit(2)
+}
+
+fn cartridges(run: &mut Run, kind: kind::Kind) {
+    let before = (run.calls, run.seconds());
+    run.at(format!("opening, kind {kind}"));
+    let pair = &mut Pair::open(&of_kind(kind), run);
+    exhaustive::files::compare(pair);
+    exhaustive::records::compare(pair);
+    if kind::is_flash(kind) {
+        exhaustive::flash::compare(pair);
+    }
+    if kind::is_eeprom(kind) {
+        exhaustive::serial::compare(pair);
+    }
+    random_lists::compare(pair);
+    run.clear_line();
+    println!("beside: kind {kind}, {} calls, {:.1} s", run.calls - before.0, run.seconds() - before.1);
+}

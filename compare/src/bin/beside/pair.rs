@@ -1,0 +1,177 @@
+//! A cartridge on both sides. After every call answer, chip record, flag, save memory and exported file are compared.
+
+use crate::original::Original;
+use crate::part::Part;
+use crate::run::{Fault, Run};
+use crate::side::{Answer, Side};
+use compare::call::Call;
+use compare::files;
+use compare::kind::{Kind, MEMORY};
+use compare::original as rust;
+use compare::records::{hex, Chip};
+
+const RECENT: usize = 12;
+
+pub struct Pair<'a> {
+    run: &'a mut Run,
+    kind: Kind,
+    original: Original,
+    part: Part,
+    fresh: Chip,
+    /// The first five bytes of the part's record, which no call changes: image length and kind.
+    identity: [u8; 5],
+    /// The lengths that import takes, with what it keeps of them.
+    fits: Vec<(u32, usize)>,
+    recent: [Option<Call>; RECENT],
+}
+
+impl<'a> Pair<'a> {
+    pub fn open(image: &[u8], run: &'a mut Run) -> Self {
+        let cart = rust::open(image).expect("an image of an allowed length");
+        let kind = rust::kind(&cart);
+        let (answer, part) = Part::open(image, MEMORY[usize::from(kind)]);
+        let [a, b, c, d] = (image.len() as u32).to_le_bytes();
+        let kept = |length: u32| rust::save_fit(image, length as usize).map(|kept| (length, kept));
+        let mut pair = Self {
+            run,
+            kind,
+            fresh: rust::chip_state(&cart),
+            original: Original::new(cart),
+            part,
+            identity: [a, b, c, d, kind],
+            fits: files::LENGTHS.into_iter().filter_map(kept).collect(),
+            recent: [None; RECENT],
+        };
+        pair.compare([Answer::value(0), answer], || "opening".into());
+        pair
+    }
+
+    pub fn at(&mut self, place: String) {
+        self.run.at(place);
+    }
+
+    pub fn seed(&self) -> u64 {
+        self.run.seed
+    }
+
+    pub fn count(&self) -> u64 {
+        self.run.calls
+    }
+
+    pub fn kind(&self) -> Kind {
+        self.kind
+    }
+
+    pub fn fits(&self) -> &[(u32, usize)] {
+        &self.fits
+    }
+
+    /// As fresh as after opening.
+    pub fn renew(&mut self) {
+        self.calls([Call::Load { length: 0, seed: 0 }, Call::Restore(self.fresh), Call::TakeFlag]);
+        self.recent = [None; RECENT];
+    }
+
+    /// Puts the call to both sides, unless it is outside the domain.
+    pub fn call(&mut self, call: Call) {
+        if call.outside(self.kind, &self.original.chip_state()) {
+            return;
+        }
+        self.recent.rotate_left(1);
+        self.recent[RECENT - 1] = Some(call);
+        let file = match call {
+            Call::Load { length, seed } => files::file(length, seed),
+            _ => Vec::new(),
+        };
+        let answers = [self.original.call(&call, &file), self.part.call(&call, &file)];
+        self.seed_fault(&call);
+        self.compare(answers, || call.frame());
+        if let Call::Export = call {
+            self.compare_destination();
+        }
+    }
+
+    pub fn calls(&mut self, calls: impl IntoIterator<Item = Call>) {
+        calls.into_iter().for_each(|call| self.call(call));
+    }
+
+    /// Import, which for the original is a load of what is kept.
+    pub fn import(&mut self, (length, kept): (u32, usize), seed: u8) {
+        let file = files::file(length, seed);
+        let answers = [self.original.import(&file, kept), self.part.import(&file, kept)];
+        self.compare(answers, || format!("import of {length} bytes with seed {seed}"));
+    }
+
+    fn seed_fault(&mut self, call: &Call) {
+        match (self.run.fault, call) {
+            (Fault::Rust, Call::Load { .. }) => drop(self.original.call(&Call::TakeFlag, &[])),
+            (Fault::Part, Call::Dma(9)) => {
+                let mut chip = self.part.chip_state();
+                chip[4] = 0;
+                self.part.call(&Call::Restore(chip), &[]);
+            }
+            _ => {}
+        }
+    }
+
+    /// Export into a longer destination, whose bytes behind the file keep their values.
+    fn compare_destination(&mut self) {
+        let mut expected = vec![0xA5; self.part.memory().len() + 16];
+        let mut destination = expected.clone();
+        let file = self.original.export().unwrap_or(&[]);
+        expected[..file.len()].copy_from_slice(file);
+        let answers = [Answer::value(file.len() as u32), self.part.save_data(&mut destination)];
+        self.compare(answers, || "export".into());
+        if expected != destination {
+            self.run.differ(&places("destination of an export", &expected, &destination));
+        }
+    }
+
+    fn compare(&mut self, answers: [Answer; 2], call: impl FnOnce() -> String) {
+        self.run.calls += 1;
+        if let Some(difference) = self.difference(answers) {
+            let before: Vec<String> = self.recent.iter().flatten().map(Call::frame).collect();
+            self.run.differ(&format!(
+                "kind {}, {}: {difference}\n  the last calls: {}",
+                self.kind,
+                call(),
+                before.join(" ")
+            ));
+        }
+    }
+
+    fn difference(&mut self, [original, part]: [Answer; 2]) -> Option<String> {
+        if original != part {
+            return Some(format!("the original's answer is {original}; the part's is {part}"));
+        }
+        let chips = [self.original.chip_state(), self.part.chip_state()];
+        if chips[0] != chips[1] {
+            return Some(format!("the original's chip record is {}; the part's is {}", hex(&chips[0]), hex(&chips[1])));
+        }
+        let flags = [self.original.flag(), self.part.flag()];
+        if flags[0] != flags[1] {
+            return Some(format!("the original's flag is {}; the part's is {}", flags[0], flags[1]));
+        }
+        let record = self.part.record();
+        if record[..5] != self.identity || record[6..] != chips[1] {
+            return Some(format!("the part's record is {}", hex(record)));
+        }
+        if self.original.memory() != self.part.memory() {
+            return Some(places("save memory", self.original.memory(), self.part.memory()));
+        }
+        match (self.original.export(), self.part.export()) {
+            (None, None) => None,
+            (Some(original), Some(part)) if original == part => None,
+            (Some(original), Some(part)) => Some(places("exported file", original, part)),
+            (original, _) => Some(format!("a file from the {} alone", if original.is_some() { "original" } else { "part" })),
+        }
+    }
+}
+
+/// Where two pieces of bytes first differ.
+fn places(name: &str, original: &[u8], part: &[u8]) -> String {
+    match original.iter().zip(part).position(|(a, b)| a != b) {
+        Some(at) => format!("{name} at {at:X}h: the original has {:02X}, the part {:02X}", original[at], part[at]),
+        None => format!("{name}: the original has {} bytes, the part {}", original.len(), part.len()),
+    }
+}

@@ -1,0 +1,133 @@
+//! The part's side.
+
+use crate::abi::*;
+use crate::side::{Answer, Side};
+use compare::call::Call;
+use compare::records::Chip;
+
+pub struct Part {
+    record: Record,
+    memory: Vec<u8>,
+    file: Vec<u8>,
+}
+
+/// The answer of a call that writes its value to a place.
+pub fn answer(call: impl FnOnce(&mut u32) -> u32) -> Answer {
+    let mut value = 0;
+    match call(&mut value) {
+        0 => Answer::value(value),
+        refusal => Answer::refusal(refusal),
+    }
+}
+
+impl Part {
+    /// Opens an image with a memory of the given length. Record and memory hold bytes that opening leaves nowhere.
+    pub fn open(image: &[u8], length: usize) -> (Answer, Self) {
+        let (mut record, mut memory) = ([0xEE; 24], vec![0x5A; length]);
+        let refusal = unsafe { gbasave_from_bytes(&mut record, image.as_ptr(), image.len(), memory.as_mut_ptr(), length) };
+        (Answer::refusal(refusal), Self { record, memory, file: vec![0; length] })
+    }
+
+    pub fn record(&self) -> &Record {
+        &self.record
+    }
+
+    pub fn save_read(&self, address: u32) -> Answer {
+        answer(|value| unsafe { gbasave_save_read(&self.record, self.memory.as_ptr(), self.memory.len(), address, value) })
+    }
+
+    pub fn save_write(&mut self, address: u32, value: u8) -> Answer {
+        let (memory, length) = (self.memory.as_mut_ptr(), self.memory.len());
+        Answer::refusal(unsafe { gbasave_save_write(&mut self.record, memory, length, address, value) })
+    }
+
+    pub fn eeprom_begin_dma(&mut self, words: u16) -> Answer {
+        Answer::refusal(unsafe { gbasave_eeprom_begin_dma(&mut self.record, words.into()) })
+    }
+
+    pub fn eeprom_write(&mut self, value: u16) -> Answer {
+        let (memory, length) = (self.memory.as_mut_ptr(), self.memory.len());
+        Answer::refusal(unsafe { gbasave_eeprom_write(&mut self.record, memory, length, value) })
+    }
+
+    pub fn eeprom_read(&mut self) -> Answer {
+        let (memory, length) = (self.memory.as_ptr(), self.memory.len());
+        answer(|bit| unsafe { gbasave_eeprom_read(&mut self.record, memory, length, bit) })
+    }
+
+    pub fn load_save(&mut self, file: &[u8]) -> Answer {
+        let (memory, length) = (self.memory.as_mut_ptr(), self.memory.len());
+        Answer::refusal(unsafe { gbasave_load_save(&mut self.record, memory, length, file.as_ptr(), file.len()) })
+    }
+
+    pub fn import_save(&mut self, file: &[u8]) -> Answer {
+        let (memory, length) = (self.memory.as_mut_ptr(), self.memory.len());
+        answer(|kept| unsafe { gbasave_import_save(&mut self.record, memory, length, file.as_ptr(), file.len(), kept) })
+    }
+
+    pub fn save_data(&self, destination: &mut [u8]) -> Answer {
+        let (memory, length) = (self.memory.as_ptr(), self.memory.len());
+        let (to, room) = (destination.as_mut_ptr(), destination.len());
+        answer(|written| unsafe { gbasave_save_data(&self.record, memory, length, to, room, written) })
+    }
+
+    pub fn take_save_dirty(&mut self) -> Answer {
+        answer(|flag| unsafe { gbasave_take_save_dirty(&mut self.record, flag) })
+    }
+
+    pub fn restore(&mut self, chip: &Chip) -> Answer {
+        Answer::refusal(unsafe { gbasave_restore_chip_state(&mut self.record, chip.as_ptr(), chip.len()) })
+    }
+
+    pub fn uses_eeprom(&self) -> Answer {
+        answer(|value| unsafe { gbasave_uses_eeprom(&self.record, value) })
+    }
+
+    pub fn eeprom_window_start(&self) -> Answer {
+        answer(|start| unsafe { gbasave_eeprom_window_start(&self.record, start) })
+    }
+}
+
+impl Side for Part {
+    fn call(&mut self, call: &Call, file: &[u8]) -> Answer {
+        match *call {
+            Call::Read(address) => self.save_read(address),
+            Call::Write(address, value) => self.save_write(address, value),
+            Call::BitOut => self.eeprom_read(),
+            Call::BitIn(value) => self.eeprom_write(value),
+            Call::Dma(words) => self.eeprom_begin_dma(words),
+            Call::TakeFlag => self.take_save_dirty(),
+            Call::Load { .. } => self.load_save(file),
+            Call::Restore(chip) => self.restore(&chip),
+            Call::ChipState | Call::Export => Answer::value(0),
+        }
+    }
+
+    fn import(&mut self, file: &[u8], _kept: usize) -> Answer {
+        self.import_save(file)
+    }
+
+    fn chip_state(&self) -> Chip {
+        let mut chip = [0xEE; 18];
+        unsafe { gbasave_chip_state(&self.record, &mut chip) };
+        chip
+    }
+
+    fn flag(&self) -> bool {
+        self.record[5] != 0
+    }
+
+    fn memory(&self) -> &[u8] {
+        &self.memory
+    }
+
+    fn export(&mut self) -> Option<&[u8]> {
+        let mut file = std::mem::take(&mut self.file);
+        let answer = self.save_data(&mut file);
+        self.file = file;
+        match answer {
+            Answer { refusal: 0, value } if value > 0 => Some(&self.file[..value as usize]),
+            _ => None,
+        }
+    }
+}

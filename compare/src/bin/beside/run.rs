@@ -1,0 +1,55 @@
+//! Where a run stands, what it has counted, and how it ends at a difference.
+
+use std::io::{stderr, IsTerminal, Write};
+use std::time::Instant;
+
+#[derive(Clone, Copy, PartialEq)]
+pub enum Fault {
+    None,
+    /// The original's load clears the flag.
+    Rust,
+    /// The part's DMA 9 clears large.
+    Part,
+}
+
+pub struct Run {
+    pub seed: u64,
+    pub fault: Fault,
+    pub calls: u64,
+    place: String,
+    terminal: bool,
+    started: Instant,
+}
+
+impl Run {
+    pub fn new(seed: u64, fault: Fault) -> Self {
+        let terminal = stderr().is_terminal();
+        Self { seed, fault, calls: 0, place: String::new(), terminal, started: Instant::now() }
+    }
+
+    pub fn seconds(&self) -> f64 {
+        self.started.elapsed().as_secs_f64()
+    }
+
+    /// Names what is compared from here on; shown on a terminal.
+    pub fn at(&mut self, place: String) {
+        self.place = place;
+        if self.terminal {
+            let _ = write!(stderr(), "\r{:6.1} s {:>12} calls  {:<48}", self.seconds(), self.calls, self.place);
+        }
+    }
+
+    pub fn clear_line(&self) {
+        if self.terminal {
+            let _ = write!(stderr(), "\r{:80}\r", "");
+        }
+    }
+
+    pub fn differ(&self, difference: &str) -> ! {
+        self.clear_line();
+        eprintln!("beside: the original and the part differ (seed {:X})", self.seed);
+        eprintln!("  in {}, call {} of the run", self.place, self.calls);
+        eprintln!("  {difference}");
+        std::process::exit(1);
+    }
+}

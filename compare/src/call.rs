@@ -1,0 +1,46 @@
+//! The calls on a cartridge, as values.
+
+use crate::kind::{is_eeprom, Kind};
+use crate::records::{hex, Chip};
+
+#[derive(Clone, Copy)]
+pub enum Call {
+    Read(u32),
+    Write(u32, u8),
+    BitOut,
+    BitIn(u16),
+    Dma(u16),
+    TakeFlag,
+    ChipState,
+    Load { length: u32, seed: u8 },
+    Export,
+    Restore(Chip),
+}
+
+impl Call {
+    /// Outside the domain in which the original's answer counts: a bit for a chip that is not there, and a DMA length that
+    /// the count has overtaken.
+    pub fn outside(&self, kind: Kind, chip: &Chip) -> bool {
+        match self {
+            Call::BitIn(_) => !is_eeprom(kind),
+            Call::Dma(9 | 73) => matches!(chip[5], 1 | 2) && chip[6] >= 6,
+            _ => false,
+        }
+    }
+
+    /// The call's frame in the list of answers.
+    pub fn frame(&self) -> String {
+        match self {
+            Call::Read(address) => format!("01{address:08X}"),
+            Call::Write(address, value) => format!("02{address:08X}{value:02X}"),
+            Call::BitOut => "03".into(),
+            Call::BitIn(value) => format!("04{value:04X}"),
+            Call::Dma(words) => format!("05{words:04X}"),
+            Call::TakeFlag => "06".into(),
+            Call::ChipState => "07".into(),
+            Call::Load { length, seed } => format!("08{length:06X}{seed:02X}"),
+            Call::Export => "09".into(),
+            Call::Restore(chip) => format!("0A{}", hex(chip)),
+        }
+    }
+}

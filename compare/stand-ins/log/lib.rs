@@ -1,0 +1,1 @@
+#[macro_export] macro_rules! warn { ($($words:tt)*) => { drop(format_args!($($words)*)) } }

@@ -1,0 +1,107 @@
+// The cartridge record as the 24 bytes that a C program lends.
+
+use cart::Cartridge;
+use cart::bit;
+use cart::chip_bytes;
+use cart::chip_of;
+use cart::state_questions;
+use image::image_length;
+use kind::SaveType;
+use kind::kind_number;
+use lists::low32;
+ghost use mathlib.Core.Path.{_≡_};
+ghost use mathlib.Core.Bool.{true};
+ghost use lib.ListN.{length, take};
+ghost use Rattle.lists.specs.Lists.{lowValue};
+ghost use Rattle.abi_record.specs.RecordBytes.{recordBytes, kindOf, cartOf, isRecord};
+
+pub fn kind_of(n: u8) -> SaveType
+    ensures { λ r. ⌜ r ≡ kindOf n ⌝ }
+{
+    match n {
+        0 => SaveType::None,
+        1 => SaveType::Sram,
+        2 => SaveType::Flash64,
+        3 => SaveType::Flash128,
+        4 => SaveType::Eeprom512,
+        _ => SaveType::Eeprom8k,
+    }
+}
+
+// The image's length.
+fn len_of(r: &[u8; 24]) -> usize
+    ensures { λ n. ⌜ n ≡ lowValue (take 4 (now (r .entry))) ⌝ }
+{
+    low32(r[0], r[1], r[2], r[3]) as usize
+}
+
+// Question 2, of bytes.
+pub fn is_record(r: &[u8; 24]) -> bool
+    ensures { λ b. ⌜ b ≡ isRecord (now (r .entry)) ⌝ }
+{
+    if 5 < r[4] {
+        return false;
+    }
+    if 1 < r[5] {
+        return false;
+    }
+    if !image_length(len_of(r)) {
+        return false;
+    }
+    let bytes = &r[..];
+    state_questions(&bytes[6..]) == 0
+}
+
+// What 24 bytes say that are a record; written again, they are the same.
+fn cart_in(bytes: &[u8]) -> Cartridge
+    requires { ⌜ (length (now bytes) ≡ 24) × (isRecord (now bytes) ≡ true) ⌝ }
+    ensures { λ c. ⌜ (c ≡ cartOf (now (bytes .entry))) × (recordBytes c ≡ now (bytes .entry)) ⌝ }
+{
+    Cartridge {
+        len: low32(bytes[0], bytes[1], bytes[2], bytes[3]) as usize,
+        kind: kind_of(bytes[4]),
+        dirty: bytes[5] == 1,
+        chip: chip_of(&bytes[6..]),
+    }
+}
+
+pub fn cart_of(r: &[u8; 24]) -> Cartridge
+    requires { ⌜ isRecord (now r) ≡ true ⌝ }
+    ensures { λ c. ⌜ (c ≡ cartOf (now (r .entry))) × (recordBytes c ≡ now (r .entry)) ⌝ }
+{
+    cart_in(&r[..])
+}
+
+pub fn record_bytes(cart: Cartridge) -> [u8; 24]
+    ensures { λ r. ⌜ r ≡ recordBytes cart ⌝ }
+{
+    let kind = cart.kind;
+    let chip = cart.chip;
+    let b = chip_bytes(chip);
+    [
+        (cart.len % 256) as u8,
+        (cart.len / 256 % 256) as u8,
+        (cart.len / 65536 % 256) as u8,
+        (cart.len / 16777216 % 256) as u8,
+        kind_number(kind) as u8,
+        bit(cart.dirty),
+        b[0],
+        b[1],
+        b[2],
+        b[3],
+        b[4],
+        b[5],
+        b[6],
+        b[7],
+        b[8],
+        b[9],
+        b[10],
+        b[11],
+        b[12],
+        b[13],
+        b[14],
+        b[15],
+        b[16],
+        b[17],
+    ]
+}

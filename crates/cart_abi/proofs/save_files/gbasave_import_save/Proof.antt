@@ -1,0 +1,29 @@
+-- `cart_abi::save_files::gbasave_import_save` meets its contract. Assumes nothing.
+use Rattle.lists.proofs.Bools.{denied, granted}
+use Rattle.cart.specs.Calls.{importSave}
+use Rattle.cart_abi.proofs.Calls.{called-at-no, called-at-yes}
+use borrow.Author.Needs.{needs}
+use Rattle.cart_abi.proofs.save_files.gbasave_import_save.Statement.{statement}
+use Rattle.cart_abi.proofs.save_files.gbasave_import_save.Tie as tie
+
+returns : tie.Need-returns
+returns c = let a = c .before .before .before .before .before .args in called-at-no (importSave (a .file .now)) (a .cart .now) (a .memory .now) (a .kept .now) (denied _ (c .before .is-record .ensures) (c .if1 .taken))
+
+cart-of-requires : tie.Need-cart-of-requires
+cart-of-requires c κs = granted _ (c .before .before .is-record .ensures) (c .before .if1 .left)
+
+returns-2 : tie.Need-returns-2
+returns-2 c = let a = c .before .before .before .before .before .before .before .before .before .before .before .before .before .before .before .args in called-at-yes (importSave (a .file .now)) (a .cart .now) (a .memory .now) (a .kept .now) (c .before .before .before .before .before .before .import-save .result) (granted _ (c .before .before .before .before .before .before .before .before .before .before .before .is-record .ensures) (c .before .before .before .before .before .before .before .before .before .before .if1 .left)) (c .before .before .before .before .before .before .before .before .cart-of .ensures .0) (c .before .before .before .before .before .before .import-save .ensures) (c .before .before .record-bytes .ensures) (c .tell .ensures)
+
+pub gbasave-import-save-spec : {M : Type 1} → statement M
+gbasave-import-save-spec =
+    tie.close
+    (tie.spec
+    (λ c κs. search needs)
+    returns
+    cart-of-requires
+    (λ c κs. search needs)
+    (λ c κs. search needs)
+    (λ c κs. search needs)
+    (λ c. search needs)
+    returns-2)

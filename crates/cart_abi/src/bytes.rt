@@ -1,0 +1,45 @@
+// `save_read` and `save_write`: the byte calls.
+use crate::places::tell;
+use abi_record::cart_of;
+use abi_record::is_record;
+use abi_record::record_bytes;
+use byte_calls::save_read;
+use byte_calls::save_write;
+ghost use mathlib.Core.Path.{_≡_};
+ghost use mathlib.Core.List.{[]};
+ghost use Rattle.cart.specs.Calls.{saveRead, saveWrite, step};
+ghost use Rattle.cart_abi.specs.Abi.{called, calledAt};
+
+#[no_mangle]
+pub extern "C" fn gbasave_save_read(
+    cart: &[u8; 24],
+    memory: &[u8],
+    address: u32,
+    value: &mut u32,
+) -> u32
+    ensures { λ x. ⌜ (x, now (cart .entry), now (memory .entry), now (value .exit)) ≡ calledAt (step (saveRead address) []) (now (cart .entry)) (now (memory .entry)) (now (value .entry)) ⌝ }
+{
+    if !is_record(cart) {
+        return 2;
+    }
+    let reply = save_read(cart_of(cart), memory, address);
+    tell(reply.refusal, reply.value, value)
+}
+
+#[no_mangle]
+pub extern "C" fn gbasave_save_write(
+    cart: &mut [u8; 24],
+    memory: &mut [u8],
+    address: u32,
+    value: u8,
+) -> u32
+    ensures { λ x. ⌜ (x, now (cart .exit), now (memory .exit)) ≡ called (step (saveWrite address value) []) (now (cart .entry)) (now (memory .entry)) ⌝ }
+{
+    if !is_record(cart) {
+        return 2;
+    }
+    let reply = save_write(cart_of(cart), memory, address, value);
+    let next = reply.cart;
+    *cart = record_bytes(next);
+    reply.refusal as u32
+}

@@ -1,0 +1,93 @@
+// Opening, `chip_state`, restore, `take_save_dirty`, and what is asked of a record alone.
+use crate::places::tell;
+use abi_record::cart_of;
+use abi_record::is_record;
+use abi_record::record_bytes;
+use state_calls::chip_state;
+use state_calls::eeprom_window_start;
+use state_calls::from_bytes;
+use state_calls::restore_chip_state;
+use state_calls::take_save_dirty;
+use state_calls::uses_eeprom;
+ghost use mathlib.Core.Path.{_≡_};
+ghost use mathlib.Core.List.{List};
+ghost use Prim.Native.Nat.{ℕ};
+ghost use Rattle.cart.specs.Record.{fromBytes};
+ghost use Rattle.cart.specs.Calls.{restore, usesEepromOf, eepromWindowStart};
+ghost use Rattle.cart_abi.specs.Abi.{left, called, flagAt, stateAt, askedAt};
+
+// The record is written whatever it was; where opening is refused, as 24 zeros.
+#[no_mangle]
+pub extern "C" fn gbasave_from_bytes(cart: &mut [u8; 24], image: &[u8], memory: &mut [u8]) -> u32
+    ensures { λ x. ⌜ (x, now (cart .exit), now (memory .exit)) ≡ left (fromBytes (now (image .entry)) (now (memory .entry))) ⌝ }
+{
+    let reply = from_bytes(image, memory);
+    let next = reply.cart;
+    *cart = record_bytes(next);
+    reply.refusal as u32
+}
+
+// The calls below are lent no memory: whichever one stands beside the record stays.
+#[no_mangle]
+pub extern "C" fn gbasave_chip_state(cart: &[u8; 24], bytes: &mut [u8; 18]) -> u32
+    ensures { λ x. ⌜ ((m : List ℕ) → (x, now (cart .entry), m, now (bytes .exit)) ≡ stateAt (now (cart .entry)) m (now (bytes .entry))) ⌝ }
+{
+    if !is_record(cart) {
+        return 2;
+    }
+    let answer = chip_state(cart_of(cart));
+    if answer.refusal != 0 {
+        return answer.refusal as u32;
+    }
+    let state = answer.bytes;
+    *bytes = state;
+    0
+}
+
+#[no_mangle]
+pub extern "C" fn gbasave_restore_chip_state(cart: &mut [u8; 24], bytes: &[u8]) -> u32
+    ensures { λ x. ⌜ ((m : List ℕ) → (x, now (cart .exit), m) ≡ called (restore (now (bytes .entry))) (now (cart .entry)) m) ⌝ }
+{
+    if !is_record(cart) {
+        return 2;
+    }
+    let reply = restore_chip_state(cart_of(cart), bytes);
+    let next = reply.cart;
+    *cart = record_bytes(next);
+    reply.refusal as u32
+}
+
+#[no_mangle]
+pub extern "C" fn gbasave_take_save_dirty(cart: &mut [u8; 24], flag: &mut u32) -> u32
+    ensures { λ x. ⌜ ((m : List ℕ) → (x, now (cart .exit), m, now (flag .exit)) ≡ flagAt (now (cart .entry)) m (now (flag .entry))) ⌝ }
+{
+    if !is_record(cart) {
+        return 2;
+    }
+    let reply = take_save_dirty(cart_of(cart));
+    let next = reply.cart;
+    *cart = record_bytes(next);
+    tell(reply.refusal, reply.value, flag)
+}
+
+#[no_mangle]
+pub extern "C" fn gbasave_uses_eeprom(cart: &[u8; 24], answer: &mut u32) -> u32
+    ensures { λ x. ⌜ (x, now (answer .exit)) ≡ askedAt usesEepromOf (now (cart .entry)) (now (answer .entry)) ⌝ }
+{
+    if !is_record(cart) {
+        return 2;
+    }
+    let told = uses_eeprom(cart_of(cart));
+    tell(told.refusal, told.value, answer)
+}
+
+#[no_mangle]
+pub extern "C" fn gbasave_eeprom_window_start(cart: &[u8; 24], start: &mut u32) -> u32
+    ensures { λ x. ⌜ (x, now (start .exit)) ≡ askedAt eepromWindowStart (now (cart .entry)) (now (start .entry)) ⌝ }
+{
+    if !is_record(cart) {
+        return 2;
+    }
+    let told = eeprom_window_start(cart_of(cart));
+    tell(told.refusal, told.value, start)
+}

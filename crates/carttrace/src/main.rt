@@ -1,0 +1,72 @@
+// carttrace: reads frames, a line each, and prints an answer for each. All that it does to them is proved in the crate `trace`; here they
+// are read and written, a piece of the input at a time, so that neither the input nor a line has a longest.
+
+use trace::Session;
+use trace::feed;
+use trace::finish;
+use trace::opened;
+ghost use mathlib.Core.Path.{_≡_};
+ghost use Prim.Native.Nat.{_≤_};
+ghost use lib.ListN.{length};
+
+struct Turn {
+    session: Session,
+    more: bool,
+}
+
+// Room for the save memory of every kind.
+fn memory() -> [u8; 131072]
+    ensures { λ r. ⌜ 131072 ≡ length r ⌝ }
+{
+    [0; 131072]
+}
+
+// A piece of the input: 1,024 characters print at most 39 each.
+fn piece(session: Session, memory: &mut [u8], out: &mut [u8]) -> Turn
+    requires { ⌜ 131072 ≤ length (now memory) ⌝ }
+    requires { ⌜ 65536 ≤ length (now out) ⌝ }
+{
+    let mut input = [0u8; 1024];
+    let got = libc::read(0, &mut input);
+    if got <= 0 {
+        return Turn {
+            session: session,
+            more: false,
+        };
+    }
+    let n = io::count(got, &input);
+    let t = feed(session, &input[..n], memory, out);
+    let len = t.len;
+    let next = t.session;
+    let written = io::write_all(1, &out[..len]);
+    Turn {
+        session: next,
+        more: written,
+    }
+}
+
+// To the input's end. Nothing says that an input ends, so the turns are counted down from a number that no run uses up.
+fn run(memory: &mut [u8], out: &mut [u8])
+    requires { ⌜ 131072 ≤ length (now memory) ⌝ }
+    requires { ⌜ 65536 ≤ length (now out) ⌝ }
+{
+    let mut session = opened();
+    let mut turns = u64::MAX;
+    while turns > 0 {
+        let t = piece(session, memory, out);
+        session = t.session;
+        if !t.more {
+            turns = 1;
+        }
+        turns -= 1;
+    }
+    let t = finish(session, memory, out);
+    let len = t.len;
+    io::write_all(1, &out[..len]);
+}
+
+fn main() {
+    let mut memory = memory();
+    let mut out = io::large_buffer();
+    run(&mut memory, &mut out);
+}
