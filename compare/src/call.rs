@@ -1,6 +1,8 @@
 //! The calls on a cartridge, as values.
 
+use crate::files;
 use crate::kind::{is_eeprom, Kind};
+use crate::original::{self, Cartridge};
 use crate::records::{hex, Chip};
 
 #[derive(Clone, Copy)]
@@ -26,6 +28,30 @@ impl Call {
             Call::Dma(9 | 73) => matches!(chip[5], 1 | 2) && chip[6] >= 6,
             _ => false,
         }
+    }
+
+    /// The file that the call brings.
+    pub fn file(&self) -> Vec<u8> {
+        match *self {
+            Call::Load { length, seed } => files::file(length, seed),
+            _ => Vec::new(),
+        }
+    }
+
+    /// The original's answer: a number, where the call has one, or its refusal. Chip record and export are asked for apart.
+    pub fn put(&self, cart: &mut Cartridge, file: &[u8]) -> Result<Option<u16>, u8> {
+        match *self {
+            Call::Read(address) => return Ok(Some(original::save_read(cart, address).into())),
+            Call::BitOut => return Ok(Some(original::eeprom_read(cart))),
+            Call::TakeFlag => return Ok(Some(original::take_save_dirty(cart).into())),
+            Call::Restore(chip) => original::restore(cart, &chip)?,
+            Call::Write(address, value) => original::save_write(cart, address, value),
+            Call::BitIn(value) => original::eeprom_write(cart, value),
+            Call::Dma(words) => original::eeprom_begin_dma(cart, words),
+            Call::Load { .. } => original::load_save(cart, file),
+            Call::ChipState | Call::Export => {}
+        }
+        Ok(None)
     }
 
     /// The call's frame in the list of answers.

@@ -13,6 +13,8 @@ pub const EEPROM8K: Kind = 5;
 
 pub const ALL: [Kind; 6] = [NONE, SRAM, FLASH64, FLASH128, EEPROM512, EEPROM8K];
 
+pub const NAMES: [&str; 6] = ["None", "Sram", "Flash64", "Flash128", "Eeprom512", "Eeprom8k"];
+
 /// Bytes of save memory by kind.
 pub const MEMORY: [usize; 6] = [0, 0x8000, 0x1_0000, 0x2_0000, 0x2000, 0x2000];
 

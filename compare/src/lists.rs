@@ -33,7 +33,7 @@ fn perhaps_broken(calls: Vec<Call>, random: &mut Random) -> Vec<Call> {
 
 pub fn address(random: &mut Random) -> u32 {
     match random.below(4) {
-        0 => random.next() as u32,
+        0 => random.number() as u32,
         1 => 0x0E00_0000 + random.below(0x1_0000) as u32,
         2 => random.below(0x40) as u32,
         _ => random.pick(&[0x7FFF, 0x8000, 0xFFFF, 0x1_0000, 0x1_FFFF, 0x1FFF, 0x2000, 0x5555, 0x2AAA, u32::MAX]),
@@ -49,7 +49,7 @@ fn value(random: &mut Random) -> u8 {
 
 pub fn words(random: &mut Random) -> u16 {
     match random.below(4) {
-        0 => random.next() as u16,
+        0 => random.number() as u16,
         _ => random.pick(&[0, 1, 8, 9, 10, 16, 17, 18, 67, 68, 69, 72, 73, 74, 80, 81, 82]),
     }
 }
@@ -87,15 +87,15 @@ fn block(random: &mut Random) -> u64 {
 fn serial_command(random: &mut Random) -> Vec<Call> {
     let (width, block) = (random.pick(&[6, 14]), block(random));
     let mut calls = match random.below(4) {
-        0 => write_block(width, block, random.next()),
-        1 => [write_block(width, block, random.next()), set_address(width, block), read_back()].concat(),
+        0 => write_block(width, block, random.number()),
+        1 => [write_block(width, block, random.number()), set_address(width, block), read_back()].concat(),
         2 => [set_address(width, block), read_back()].concat(),
         _ => [set_address(width, block), vec![Call::BitOut; random.below(68) as usize]].concat(),
     };
     // Only bit 0 of a value counts.
     for call in &mut calls {
         if let Call::BitIn(value) = call {
-            *value |= random.next() as u16 & 0xFFFE;
+            *value |= random.number() as u16 & 0xFFFE;
         }
     }
     // Some hosts announce nothing.
@@ -108,7 +108,7 @@ fn serial_command(random: &mut Random) -> Vec<Call> {
 fn stray_bits(random: &mut Random) -> Vec<Call> {
     let number = random.below(20);
     let out = random.one_in(2);
-    (0..number).map(|_| if out { Call::BitOut } else { Call::BitIn(random.next() as u16) }).collect()
+    (0..number).map(|_| if out { Call::BitOut } else { Call::BitIn(random.number() as u16) }).collect()
 }
 
 fn file_or_flag(random: &mut Random) -> Call {

@@ -94,7 +94,7 @@ pub fn random(random: &mut Random) -> Chip {
     chip[1] = random.below(2) as u8;
     chip[2] = random.one_in(4) as u8;
     chip[9] = random.below(68) as u8;
-    let acc = random.next() >> random.below(64);
+    let acc = random.number() >> random.below(64);
     with_acc(with_block(chip, random.below(1024) as u16), acc)
 }
 

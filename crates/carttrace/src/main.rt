@@ -46,7 +46,7 @@ fn piece(session: Session, memory: &mut [u8], out: &mut [u8]) -> Turn
 }
 
 // To the input's end. Nothing says that an input ends, so the turns are counted down from a number that no run uses up.
-fn run(memory: &mut [u8], out: &mut [u8])
+fn pieces(memory: &mut [u8], out: &mut [u8]) -> Session
     requires { ⌜ 131072 ≤ length (now memory) ⌝ }
     requires { ⌜ 65536 ≤ length (now out) ⌝ }
 {
@@ -56,11 +56,18 @@ fn run(memory: &mut [u8], out: &mut [u8])
         let t = piece(session, memory, out);
         session = t.session;
         if !t.more {
-            turns = 1;
+            return session;
         }
         turns -= 1;
     }
-    let t = finish(session, memory, out);
+    session
+}
+
+fn run(memory: &mut [u8], out: &mut [u8])
+    requires { ⌜ 131072 ≤ length (now memory) ⌝ }
+    requires { ⌜ 65536 ≤ length (now out) ⌝ }
+{
+    let t = finish(pieces(memory, out), memory, out);
     let len = t.len;
     io::write_all(1, &out[..len]);
 }

@@ -1,6 +1,7 @@
 -- What the code returns for what a character prints and leaves. Assumes nothing.
 use mathlib.Core.Path.{_≡_, ap, _∙_}
-use mathlib.Core.List.{List, _++_}
+use mathlib.Core.Bool.{true, false}
+use mathlib.Core.List.{List, [], _++_}
 use Prim.Native.Nat.{ℕ, _≤_}
 use native.Mathlib.Omega.{arith}
 use lib.ListN.{length, take, drop}
@@ -12,7 +13,7 @@ use Rattle.kind.specs.Kind.{memorySize}
 use Rattle.trace.specs.declared.Session.{Session}
 use Rattle.trace.specs.declared.Told.{Told}
 use Rattle.trace.specs.Trace.{written}
-use Rattle.trace.specs.Session.{Heard, toldWith, told}
+use Rattle.trace.specs.Session.{Heard, heard, isEmpty, lineEnded, finished, toldWith, told}
 
 -- session, text and memory, each from its own call
 pub tells : {x : Told} {session : Session} {len : ℕ} {m out' : List ℕ} (h : Heard) (out : List ℕ)
@@ -34,3 +35,11 @@ pub erased-front : {n : ℕ} {e : List ℕ} (kind : SaveType) (m : List ℕ) →
 erased-front {n} {e} kind m k h q =
     let l = q ∙ ap erased (length-take-le n m h ∙ k) in
     λ i. l i ++ drop (k i) m
+
+pub finished-empty : (s : Session) (m : List ℕ) → isEmpty (s .line) ≡ true → finished s m ≡ heard [] s m
+unfolding finished
+finished-empty s m e = rw e
+
+pub finished-full : (s : Session) (m : List ℕ) → isEmpty (s .line) ≡ false → finished s m ≡ lineEnded s m
+unfolding finished
+finished-full s m e = rw e

@@ -56,6 +56,10 @@ staged-short First s m = begun-short (firstIn (s .line)) s m
 staged-short Playing s m = play-short (frameIn (s .line)) _
 staged-short Over s m = omega arith
 
+pub ended-short : (s : Session) (m : List ℕ) → length (lineEnded s m .text) ≤ 39
+unfolding lineEnded
+ended-short s m = staged-short (s .stage) s m
+
 pub took-short : (s : Session) (c : ℕ) (m : List ℕ) → length (took s c m .text) ≤ 39
-unfolding took lineEnded
-took-short s c m = either (λ (h : Heard). length (h .text) ≤ 39) (eqb c 0x0a) (staged-short (s .stage) s m) (omega arith)
+unfolding took
+took-short s c m = either (λ (h : Heard). length (h .text) ≤ 39) (eqb c 0x0a) (ended-short s m) (omega arith)

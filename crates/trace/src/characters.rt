@@ -119,6 +119,7 @@ pub fn feed(session: Session, input: &[u8], memory: &mut [u8], out: &mut [u8]) -
     requires { ⌜ 131072 ≤ length (now memory) ⌝ }
     requires { ⌜ 39 * length (now input) ≤ length (now out) ⌝ }
     ensures { λ r. ⌜ (r, now (memory .exit), now (out .exit)) ≡ told (tookAll (now (input .entry)) session (now (memory .entry))) (now (out .entry)) ⌝ }
+    ensures { λ r. ⌜ r .len ≤ length (now (out .entry)) ⌝ }
 {
     let mut s = session;
     let mut len = 0;
@@ -137,6 +138,7 @@ pub fn finish(session: Session, memory: &mut [u8], out: &mut [u8]) -> Told
     requires { ⌜ 131072 ≤ length (now memory) ⌝ }
     requires { ⌜ 39 ≤ length (now out) ⌝ }
     ensures { λ r. ⌜ (r, now (memory .exit), now (out .exit)) ≡ told (finished session (now (memory .entry))) (now (out .entry)) ⌝ }
+    ensures { λ r. ⌜ r .len ≤ length (now (out .entry)) ⌝ }
 {
     let line = session.line;
     if is_empty(line) {

@@ -1,10 +1,10 @@
 //! The list as it is written: each call is put to the original, and its frame and answer become a line.
 
 use compare::call::Call;
+use compare::images;
 use compare::kind::Kind;
 use compare::original::{self, Cartridge};
 use compare::records::hex;
-use compare::{files, images};
 
 pub struct List {
     kind: Kind,
@@ -42,23 +42,15 @@ impl List {
 }
 
 fn answer(cart: &mut Cartridge, call: &Call) -> String {
-    match *call {
-        Call::Read(address) => format!("00{:02X}", original::save_read(cart, address)),
-        Call::Write(address, value) => done(original::save_write(cart, address, value)),
-        Call::BitOut => format!("00{:02X}", original::eeprom_read(cart)),
-        Call::BitIn(value) => done(original::eeprom_write(cart, value)),
-        Call::Dma(words) => done(original::eeprom_begin_dma(cart, words)),
-        Call::TakeFlag => format!("00{:02X}", u8::from(original::take_save_dirty(cart))),
-        Call::ChipState => format!("00{}", hex(&original::chip_state(cart))),
-        Call::Load { length, seed } => done(original::load_save(cart, &files::file(length, seed))),
-        Call::Export => match original::save_data(cart) {
+    let answer = call.put(cart, &call.file());
+    match (call, answer) {
+        (Call::ChipState, _) => format!("00{}", hex(&original::chip_state(cart))),
+        (Call::Export, _) => match original::save_data(cart) {
             Some(file) => format!("00{:06X}{:08X}", file.len(), original::crc32(&file)),
             None => "0000000000000000".into(),
         },
-        Call::Restore(chip) => format!("{:02X}", original::restore(cart, &chip).err().unwrap_or(0)),
+        (_, Ok(Some(value))) => format!("00{value:02X}"),
+        (_, Ok(None)) => "00".into(),
+        (_, Err(refusal)) => format!("{refusal:02X}"),
     }
-}
-
-fn done((): ()) -> String {
-    "00".into()
 }

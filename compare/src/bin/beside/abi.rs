@@ -4,7 +4,13 @@ pub type Record = [u8; 24];
 
 #[link(name = "cart_abi", kind = "static")]
 extern "C" {
-    pub fn gbasave_from_bytes(record: &mut Record, image: *const u8, image_len: usize, memory: *mut u8, memory_len: usize) -> u32;
+    pub fn gbasave_from_bytes(
+        record: &mut Record,
+        image: *const u8,
+        image_len: usize,
+        memory: *mut u8,
+        memory_len: usize,
+    ) -> u32;
     pub fn gbasave_save_read(record: &Record, memory: *const u8, memory_len: usize, address: u32, value: &mut u32) -> u32;
     pub fn gbasave_save_write(record: &mut Record, memory: *mut u8, memory_len: usize, address: u32, value: u8) -> u32;
     pub fn gbasave_eeprom_begin_dma(record: &mut Record, words: u32) -> u32;
@@ -36,7 +42,13 @@ extern "C" {
     pub fn gbasave_read16(image: *const u8, image_len: usize, address: u32, value: &mut u32) -> u32;
     pub fn gbasave_read32(image: *const u8, image_len: usize, address: u32, value: &mut u32) -> u32;
     pub fn gbasave_header_checksum(image: *const u8, image_len: usize, value: &mut u32) -> u32;
-    pub fn gbasave_title(image: *const u8, image_len: usize, destination: *mut u8, destination_len: usize, length: &mut u32) -> u32;
+    pub fn gbasave_title(
+        image: *const u8,
+        image_len: usize,
+        destination: *mut u8,
+        destination_len: usize,
+        length: &mut u32,
+    ) -> u32;
     pub fn gbasave_rom_crc(image: *const u8, image_len: usize, value: &mut u32) -> u32;
     pub fn gbasave_detect_save_type(image: *const u8, image_len: usize, kind: &mut u32) -> u32;
     pub fn gbasave_save_fit(image: *const u8, image_len: usize, length: usize, kept: &mut u32) -> u32;

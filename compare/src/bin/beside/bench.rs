@@ -8,7 +8,7 @@ use std::time::Instant;
 
 /// Calls between two looks at the clock.
 const BATCH: u32 = 4096;
-const ROUND_SECONDS: f64 = 0.004;
+const ROUND_SECONDS: f64 = 0.0005;
 
 pub fn run() {
     println!("| what | the original | the part | ratio |");
@@ -35,7 +35,7 @@ fn values<T: Copy>(name: &str, values: &[T], mut original: impl FnMut(T), mut pa
 fn row(name: &str, units: u32, mut original: impl FnMut(), mut part: impl FnMut()) {
     let batch = seconds(1, &mut original).max(seconds(1, &mut part));
     let batches = (ROUND_SECONDS / batch).ceil() as u32;
-    let rounds = if batch < ROUND_SECONDS { 41 } else { 9 };
+    let rounds = if batch < ROUND_SECONDS { 201 } else { 9 };
     let mut times = [Vec::new(), Vec::new()];
     for _ in 0..rounds {
         times[0].push(seconds(batches, &mut original));

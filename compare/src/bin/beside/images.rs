@@ -118,7 +118,11 @@ fn opening(run: &mut Run, image: &[u8]) {
     record.extend([kind, 0]);
     record.extend(rust::chip_state(&cart));
     if record != part.record() || cart.memory() != part.memory() {
-        run.differ(&format!("from_bytes: the record is {}, not {}, or the memory is not erased", hex(part.record()), hex(&record)));
+        run.differ(&format!(
+            "from_bytes: the record is {}, not {}, or the memory is not erased",
+            hex(part.record()),
+            hex(&record)
+        ));
     }
     same(run, "memory_size", cart.memory().len() as u32, part::memory_size(kind));
     same(run, "uses_eeprom", rust::uses_eeprom(&cart).into(), part.uses_eeprom());
@@ -156,7 +160,7 @@ fn reads(run: &mut Run, random: &mut Random, image: &[u8]) {
     let cart = rust::open(image).expect("an image of an allowed length");
     let end = image.len() as u32;
     let inside = random.below(end.into()) as u32;
-    let anywhere = random.next() as u32;
+    let anywhere = random.number() as u32;
     for address in [0, inside, end - 4, end - 3, end - 2, end - 1, end, anywhere, u32::MAX - 3, u32::MAX - 1, u32::MAX] {
         same(run, "read", rust::read(&cart, address).into(), part::read(image, address));
         if address < u32::MAX {

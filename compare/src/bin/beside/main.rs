@@ -57,8 +57,9 @@ fn usage() -> ! {
 }
 
 fn cartridges(run: &mut Run, kind: kind::Kind) {
+    let name = kind::NAMES[usize::from(kind)];
     let before = (run.calls, run.seconds());
-    run.at(format!("opening, kind {kind}"));
+    run.at(format!("{name}, opening"));
     let pair = &mut Pair::open(&of_kind(kind), run);
     exhaustive::files::compare(pair);
     exhaustive::records::compare(pair);
@@ -70,5 +71,5 @@ fn cartridges(run: &mut Run, kind: kind::Kind) {
     }
     random_lists::compare(pair);
     run.clear_line();
-    println!("beside: kind {kind}, {} calls, {:.1} s", run.calls - before.0, run.seconds() - before.1);
+    println!("beside: {name}, {} calls, {:.1} s", run.calls - before.0, run.seconds() - before.1);
 }

@@ -18,20 +18,9 @@ impl Original {
 
 impl Side for Original {
     fn call(&mut self, call: &Call, file: &[u8]) -> Answer {
-        let cart = &mut self.cart;
-        match *call {
-            Call::Read(address) => Answer::value(original::save_read(cart, address).into()),
-            Call::Write(address, value) => done(original::save_write(cart, address, value)),
-            Call::BitOut => Answer::value(original::eeprom_read(cart).into()),
-            Call::BitIn(value) => done(original::eeprom_write(cart, value)),
-            Call::Dma(words) => done(original::eeprom_begin_dma(cart, words)),
-            Call::TakeFlag => Answer::value(original::take_save_dirty(cart).into()),
-            Call::Load { .. } => done(original::load_save(cart, file)),
-            Call::Restore(chip) => match original::restore(cart, &chip) {
-                Ok(()) => done(()),
-                Err(refusal) => Answer::refusal(refusal.into()),
-            },
-            Call::ChipState | Call::Export => done(()),
+        match call.put(&mut self.cart, file) {
+            Ok(value) => Answer::value(value.unwrap_or(0).into()),
+            Err(refusal) => Answer::refusal(refusal.into()),
         }
     }
 
@@ -56,8 +45,4 @@ impl Side for Original {
         self.file = original::save_data(&self.cart)?;
         Some(&self.file)
     }
-}
-
-fn done((): ()) -> Answer {
-    Answer::value(0)
 }

@@ -6,7 +6,7 @@ use crate::run::{Fault, Run};
 use crate::side::{Answer, Side};
 use compare::call::Call;
 use compare::files;
-use compare::kind::{Kind, MEMORY};
+use compare::kind::{Kind, MEMORY, NAMES};
 use compare::original as rust;
 use compare::records::{hex, Chip};
 
@@ -46,8 +46,9 @@ impl<'a> Pair<'a> {
         pair
     }
 
-    pub fn at(&mut self, place: String) {
-        self.run.at(place);
+    /// Names what is compared from here on.
+    pub fn at(&mut self, place: &str) {
+        self.run.at(format!("{}, {place}", NAMES[usize::from(self.kind)]));
     }
 
     pub fn seed(&self) -> u64 {
@@ -79,10 +80,7 @@ impl<'a> Pair<'a> {
         }
         self.recent.rotate_left(1);
         self.recent[RECENT - 1] = Some(call);
-        let file = match call {
-            Call::Load { length, seed } => files::file(length, seed),
-            _ => Vec::new(),
-        };
+        let file = call.file();
         let answers = [self.original.call(&call, &file), self.part.call(&call, &file)];
         self.seed_fault(&call);
         self.compare(answers, || call.frame());
@@ -131,12 +129,7 @@ impl<'a> Pair<'a> {
         self.run.calls += 1;
         if let Some(difference) = self.difference(answers) {
             let before: Vec<String> = self.recent.iter().flatten().map(Call::frame).collect();
-            self.run.differ(&format!(
-                "kind {}, {}: {difference}\n  the last calls: {}",
-                self.kind,
-                call(),
-                before.join(" ")
-            ));
+            self.run.differ(&format!("kind {}, {}: {difference}\n  the last calls: {}", self.kind, call(), before.join(" ")));
         }
     }
 

@@ -71,6 +71,18 @@ impl Part {
         answer(|written| unsafe { gbasave_save_data(&self.record, memory, length, to, room, written) })
     }
 
+    /// Export into new memory, as the original does it.
+    pub fn save_file(&self) -> Vec<u8> {
+        let (memory, length) = (self.memory.as_ptr(), self.memory.len());
+        let mut file: Vec<u8> = Vec::with_capacity(length);
+        let mut written = 0;
+        unsafe {
+            gbasave_save_data(&self.record, memory, length, file.as_mut_ptr(), length, &mut written);
+            file.set_len(written as usize);
+        }
+        file
+    }
+
     pub fn take_save_dirty(&mut self) -> Answer {
         answer(|flag| unsafe { gbasave_take_save_dirty(&mut self.record, flag) })
     }

@@ -12,7 +12,7 @@ const CALLS_OF_A_LIST: u64 = 4_000;
 pub fn compare(pair: &mut Pair) {
     let kind = pair.kind();
     for list in 0..CALLS[usize::from(kind)] / CALLS_OF_A_LIST {
-        pair.at(format!("random lists, kind {kind}, list {list}"));
+        pair.at(&format!("random list {list}"));
         pair.renew();
         one_list(pair, list);
     }
@@ -34,5 +34,5 @@ fn one_list(pair: &mut Pair, list: u64) {
 /// Each list has numbers of its own.
 fn random_of(seed: u64, kind: Kind, list: u64) -> Random {
     let mut random = Random::new(seed ^ (u64::from(kind) << 56) ^ (list << 32));
-    Random::new(random.next())
+    Random::new(random.number())
 }

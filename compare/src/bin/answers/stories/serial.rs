@@ -54,7 +54,9 @@ fn bits(list: &mut List, chip: Chip) {
 
 /// A DMA length told in the middle of an address, and one bit behind it.
 pub fn announced_late(list: &mut List) {
-    for (phase, width, counts) in [(1, 14, &[0, 5, 6, 13][..]), (2, 6, &[0, 4, 5]), (2, 14, &[5, 12, 13]), (1, 0, &[5]), (3, 6, &[63])] {
+    for (phase, width, counts) in
+        [(1, 14, &[0, 5, 6, 13][..]), (2, 6, &[0, 4, 5]), (2, 14, &[5, 12, 13]), (1, 0, &[5]), (3, 6, &[63])]
+    {
         for count in counts {
             for words in [9, 17, 73, 81, 68] {
                 let chip = with_acc(serial(width, 0, phase, *count), 0b1_1011);

@@ -20,12 +20,7 @@ fn images() {
     for (name, marker) in [("SRAM_V", "SRAM_V"), ("EEPROM_V", "EEPROM_V"), ("no marker", "")] {
         let image = image(LARGEST, 7, LARGEST - 64, marker.as_bytes());
         let memory = MEMORY[usize::from(original::detect_save_type(&image))];
-        row(
-            &format!("opening, 32 MiB, {name}"),
-            1,
-            || used(original::open(&image)),
-            || used(Part::open(&image, memory)),
-        );
+        row(&format!("opening, 32 MiB, {name}"), 1, || used(original::open(&image)), || used(Part::open(&image, memory)));
         row(
             &format!("opening and CRC, 32 MiB, {name}"),
             1,
@@ -50,19 +45,13 @@ fn files() {
         let length = MEMORY[usize::from(kind)];
         let (_, mut part) = Part::open(&image, length);
         let file = file(length as u32, 3);
-        let mut destination = vec![0; length];
         row(
             &format!("load, {name}, {length} bytes"),
             1,
             || original::load_save(&mut cart, black_box(&file)),
             || used(part.load_save(black_box(&file))),
         );
-        row(
-            &format!("export, {name}, {length} bytes"),
-            1,
-            || used(original::save_data(&cart)),
-            || used(part.save_data(black_box(&mut destination))),
-        );
+        row(&format!("export, {name}, {length} bytes"), 1, || used(original::save_data(&cart)), || used(part.save_file()));
     }
 }
 

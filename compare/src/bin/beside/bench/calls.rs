@@ -92,12 +92,7 @@ fn bits() {
         ("serial bit in, writes of 81 bits", write_block(14, 100, 0x0123_4567_89AB_CDEF)),
         ("serial bit in, addresses of 17 bits", set_address(14, 100)),
     ] {
-        values(
-            name,
-            &stream(command),
-            |bit| original::eeprom_write(&mut cart, bit),
-            |bit| used(part.eeprom_write(bit)),
-        );
+        values(name, &stream(command), |bit| original::eeprom_write(&mut cart, bit), |bit| used(part.eeprom_write(bit)));
     }
     let reading = with_block(serial(14, 1, 6, 0), 100);
     row(
@@ -120,11 +115,7 @@ fn states() {
     let refused = serial(14, 1, 3, 64);
     let (mut cart, mut part) = open(kind::EEPROM512, accepted);
     for (name, chip) in [("restore", accepted), ("restore, refused", refused)] {
-        calls(
-            name,
-            |_| used(original::restore(&mut cart, black_box(&chip))),
-            |_| used(part.restore(black_box(&chip))),
-        );
+        calls(name, |_| used(original::restore(&mut cart, black_box(&chip))), |_| used(part.restore(black_box(&chip))));
     }
     calls("chip state", |_| used(original::chip_state(&cart)), |_| used(part.chip_state()));
     calls("take the flag", |_| used(original::take_save_dirty(&mut cart)), |_| used(part.take_save_dirty()));

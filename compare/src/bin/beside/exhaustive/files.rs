@@ -5,7 +5,7 @@ use compare::call::Call;
 use compare::files::LENGTHS;
 
 pub fn compare(pair: &mut Pair) {
-    pair.at(format!("files, kind {}", pair.kind()));
+    pair.at("files");
     for large in 0..2 {
         let mut chip = [0; 18];
         chip[4] = large;

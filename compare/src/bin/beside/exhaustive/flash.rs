@@ -8,7 +8,7 @@ const ADDRESSES: [u32; 4] = [0, 0x0E00_0FFF, 0x5555, 0xFFFF_FFFF];
 
 pub fn compare(pair: &mut Pair) {
     for state in STATES {
-        pair.at(format!("flash state {state}, kind {}", pair.kind()));
+        pair.at(&format!("flash state {state}"));
         for bank in 0..2 {
             for id_mode in 0..2 {
                 let mut chip = [0; 18];

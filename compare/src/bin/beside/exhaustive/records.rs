@@ -5,7 +5,7 @@ use compare::call::Call;
 use compare::records::{serial, with_acc, with_block, Chip, FIELDS};
 
 pub fn compare(pair: &mut Pair) {
-    pair.at(format!("restores, kind {}", pair.kind()));
+    pair.at("restores");
     for phase in 0..7 {
         let base = with_acc(with_block(serial(0, 0, phase, 0), 321), 0x0102_0304_0506_0708);
         every_byte(pair, &base);

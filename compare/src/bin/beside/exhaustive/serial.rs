@@ -8,7 +8,7 @@ use compare::records::{positions, serial, with_acc, with_block, Chip};
 const WORDS: [u16; 5] = [9, 17, 73, 81, 68];
 
 pub fn compare(pair: &mut Pair) {
-    pair.at(format!("serial positions, kind {}", pair.kind()));
+    pair.at("serial positions");
     pair.call(Call::Load { length: 8192, seed: 0x3C });
     for position in positions() {
         for (block, acc) in [(0, 0), (63, 1), (100, (1 << 63) + 1), (1023, u64::MAX)] {
@@ -22,7 +22,7 @@ pub fn compare(pair: &mut Pair) {
             every_step(pair, chip);
         }
     }
-    pair.at(format!("serial streams, kind {}", pair.kind()));
+    pair.at("serial streams");
     for large in 0..2 {
         for command in [set_address(6, 36), set_address(14, 100), write_block(6, 36, !0xF0), write_block(14, 100, 0xA5 << 40)] {
             every_place(pair, large, &command);

@@ -63,7 +63,10 @@ same-length-2 : tie.Need-same-length-2 Inv-loop μ-loop
 same-length-2 c = out-length (c .before .before .loop .inv)
 
 returns : tie.Need-returns Inv-loop μ-loop
-returns c = fed-all (c .before .before .loop .inv) (omega (arith, c .before .loop-test)) (c .told-with .ensures)
+returns c =
+    let b = c .before .before .loop .inv in
+    let n : c .told-with .result .len ≡ c .before .before .loop .len = λ i. c .told-with .ensures i .len in
+    (fed-all b (omega (arith, c .before .loop-test)) (c .told-with .ensures), omega (arith, n, b .lenOk, b .placeOk, b .roomOk))
 
 pub feed-spec : {M : Type 1} → statement M
 feed-spec =

@@ -1,21 +1,37 @@
+use Rattle.trace.specs.Session.{told}
+use Rattle.trace.proofs.Heard.{finished-empty, finished-full}
+use mathlib.Core.Path.{_≡_}
+use native.Mathlib.Omega.{arith}
+use lib.ListN.{length}
+use Rattle.trace.specs.Session.{lineEnded}
+use Rattle.trace.proofs.Short.{ended-short}
 use mathlib.Core.Path.{refl, sym, _∙_}
 use mathlib.Core.List.{[]}
 use Rattle.lists.specs.Lists.{into}
-use Rattle.trace.specs.Session.{finished, heard}
+use Rattle.trace.specs.Session.{heard}
 use Rattle.trace.proofs.Heard.{tells}
 use borrow.Author.Needs.{needs}
 use Rattle.trace.proofs.characters.finish.Statement.{statement}
 use Rattle.trace.proofs.characters.finish.Tie as tie
 
 returns : tie.Need-returns
-unfolding finished into
+unfolding into
 returns c =
     let a = c .before .before .before .before .before .before .args in
-    rw (sym (c .before .before .is-empty .ensures) ∙ c .before .if1 .taken) (tells (heard [] (a .session) (a .memory .now)) (a .out .now) (c .told-with .ensures) refl refl refl)
+    let n : c .told-with .result .len ≡ 0 = λ i. c .told-with .ensures i .len in (
+      tells (heard [] (a .session) (a .memory .now)) (a .out .now) (c .told-with .ensures) refl refl refl
+          ∙ (λ i. told (sym (finished-empty (a .session) (a .memory .now) (sym (c .before .before .is-empty .ensures) ∙ c .before .if1 .taken)) i) (a .out .now)),
+      omega (arith, n),
+    )
 
 returns-2 : tie.Need-returns-2
-unfolding finished
-returns-2 c = rw (sym (c .before .before .before .before .before .before .before .before .is-empty .ensures) ∙ c .before .before .before .before .before .before .before .if1 .left) (c .before .before .before .before .end-line .ensures)
+returns-2 c =
+    let a = c .before .before .before .before .before .before .before .before .before .before .before .before .args in
+    let n : c .before .before .before .before .end-line .result .len ≡ length (lineEnded (a .session) (a .memory .now) .text) = λ i. c .before .before .before .before .end-line .ensures i .0 .len in (
+      c .before .before .before .before .end-line .ensures
+          ∙ (λ i. told (sym (finished-full (a .session) (a .memory .now) (sym (c .before .before .before .before .before .before .before .before .is-empty .ensures) ∙ c .before .before .before .before .before .before .before .if1 .left)) i) (a .out .now)),
+      omega (arith, n, ended-short (a .session) (a .memory .now), c .before .before .before .before .before .before .before .before .before .before .before .before .pre),
+    )
 
 pub finish-spec : {M : Type 1} → statement M
 finish-spec =
