@@ -1,6 +1,7 @@
-// The cartridge record as the 24 bytes that a C program lends.
+// What a C program lends: the cartridge record as 24 bytes, and places for values.
 
 use cart::Cartridge;
+use cart::Reply;
 use cart::bit;
 use cart::chip_bytes;
 use cart::chip_of;
@@ -14,6 +15,7 @@ ghost use mathlib.Core.Bool.{true};
 ghost use lib.ListN.{length, take};
 ghost use Rattle.lists.specs.Lists.{lowValue};
 ghost use Rattle.abi_record.specs.RecordBytes.{recordBytes, kindOf, cartOf, isRecord};
+ghost use Rattle.abi_record.specs.Places.{leftBy, told};
 
 pub fn kind_of(n: u8) -> SaveType
     ensures { λ r. ⌜ r ≡ kindOf n ⌝ }
@@ -104,4 +106,24 @@ pub fn record_bytes(cart: Cartridge) -> [u8; 24]
         b[16],
         b[17],
     ]
+}
+
+// The record that a call leaves is written where it was lent; the answer is 0 or the number of the refusal.
+pub fn write_back(reply: Reply, cart: &mut [u8; 24]) -> u32
+    ensures { λ x. ⌜ (x, now (cart .exit)) ≡ leftBy reply ⌝ }
+{
+    let next = reply.cart;
+    *cart = record_bytes(next);
+    reply.refusal as u32
+}
+
+// A value is put where a place was lent for it; a refused call leaves the place.
+pub fn tell(refusal: u8, value: u32, place: &mut u32) -> u32
+    ensures { λ x. ⌜ (x, now (place .exit)) ≡ told refusal value (now (place .entry)) ⌝ }
+{
+    if refusal != 0 {
+        return refusal as u32;
+    }
+    *place = value;
+    0
 }

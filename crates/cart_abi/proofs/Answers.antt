@@ -1,10 +1,10 @@
 -- Answers by number. Assumes nothing.
-use mathlib.Core.Path.{_≡_, ap, _∙_}
+use mathlib.Core.Path.{_≡_, refl, ap, _∙_}
 use mathlib.Core.Bool.{true, false, _||_}
 use mathlib.Core.List.{List}
 use Prim.Native.Nat.{ℕ, _≤_}
 use native.Mathlib.Omega.{arith}
-use lib.Dec.{leb}
+use lib.Dec.{ltb, leb}
 use lib.ListN.{length}
 use Rattle.lists.proofs.Bools.{either}
 use Rattle.image.specs.declared.Answer.{Answer}
@@ -13,8 +13,10 @@ use Rattle.kind.specs.declared.SaveType.{SaveType}
 use Rattle.kind.specs.declared.SaveType.the-variants.{None, Sram, Flash64, Flash128, Eeprom512, Eeprom8k}
 use Rattle.kind.specs.Kind.{kindNumber, memorySize, detectSaveType}
 use Rattle.files.specs.declared.SaveFit.{SaveFit}
-use Rattle.files.specs.SaveFit.{chipSize, eepromFit, saveFit, saveSize, saveFitOf, saveSizeOf}
-use Rattle.cart_abi.specs.Abi.{told, answeredAt, titleAt, kindAnswer, keptLength}
+use Rattle.files.specs.SaveFit.{chipSize, eepromFit, saveFit, saveSize, saveFitOf, saveSizeOf, taken}
+use Rattle.abi_record.specs.Places.{told}
+use Rattle.cart_abi.specs.Abi.{answeredAt, titleAt, kindAnswer, keptLength}
+use Rattle.cart_abi.specs.Claims.{NoneIsZero}
 
 pub answered : (a : Answer) (place : ℕ) {b : Answer} {x p : ℕ} → (x, p) ≡ told (a .refusal) (a .value) place → a ≡ b → (x, p) ≡ answeredAt b place
 answered a place t e = t ∙ ap (λ (b : Answer). answeredAt b place) e
@@ -59,3 +61,20 @@ kind-no image place h = rw h
 pub kind-yes : (image : List ℕ) (place : ℕ) {n : ℕ} → imageLength (length image) ≡ true → n ≡ kindNumber (detectSaveType image) → (0, n) ≡ answeredAt (kindAnswer image) place
 unfolding kindAnswer
 kind-yes image place h e = rw (h, e)
+
+-- no file is kept by 0 bytes
+abbrev Told : SaveFit → Type 0
+Told fit = ltb 0 (keptLength fit) ≡ taken fit
+
+fit-told : (k : SaveType) (n : ℕ) → Told (saveFit k n)
+unfolding saveFit eepromFit
+fit-told None n = refl
+fit-told Sram n = either Told (chipSize 32768 n || chipSize 65536 n) refl refl
+fit-told Flash64 n = either Told (chipSize 65536 n) refl refl
+fit-told Flash128 n = either Told (chipSize 131072 n) refl refl
+fit-told Eeprom512 n = either Told (chipSize 512 n) refl (either Told (chipSize 8192 n) refl refl)
+fit-told Eeprom8k n = either Told (chipSize 512 n) refl (either Told (chipSize 8192 n) refl refl)
+
+pub none-is-zero : NoneIsZero
+unfolding saveFitOf
+none-is-zero = record { told = λ image n. either Told (leb 192 (length image)) (fit-told (detectSaveType image) n) refl }

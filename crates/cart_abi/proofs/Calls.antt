@@ -14,7 +14,8 @@ use Rattle.cart.specs.Replies.{state, replied, exportReplied, flagReplied}
 use Rattle.state_calls.specs.declared.StateAnswer.{StateAnswer}
 use Rattle.state_calls.specs.StateAnswer.{stateAnswered}
 use Rattle.abi_record.specs.RecordBytes.{recordBytes, cartOf, isRecord}
-use Rattle.cart_abi.specs.Abi.{told, left, called, calledAt, exportAt, flagAt, stateAt, answeredAt, askedAt}
+use Rattle.abi_record.specs.Places.{leftBy, told}
+use Rattle.cart_abi.specs.Abi.{left, called, calledAt, exportAt, flagAt, stateAt, answeredAt, askedAt}
 use Rattle.cart_abi.proofs.Kept.{read-keeps, state-keeps, given-18, export-keeps}
 
 module _ (call : State → Outcome) (r m : List ℕ) where
@@ -22,11 +23,12 @@ module _ (call : State → Outcome) (r m : List ℕ) where
   unfolding called
   called-no h = rw h
 
-  pub called-yes : {c : Cartridge} (reply : Reply) {b m' : List ℕ} → isRecord r ≡ true → c ≡ cartOf r → (reply, m') ≡ replied (call (state c m)) → b ≡ recordBytes (reply .cart)
-      → (reply .refusal, b, m') ≡ called call r m
+  pub called-yes : {c : Cartridge} (reply : Reply) {b m' : List ℕ} {x : ℕ} → isRecord r ≡ true → c ≡ cartOf r → (reply, m') ≡ replied (call (state c m)) → (x, b) ≡ leftBy reply
+      → (x, b, m') ≡ called call r m
   unfolding called
-  called-yes reply h e f g =
-      rw (h, g, ← e) (ap (λ (q : Reply × List ℕ). (q .0 .refusal, recordBytes (q .0 .cart), q .1)) f)
+  called-yes reply {m' = m'} h e f w =
+      rw (h, ← e)
+      (ap (λ (l : ℕ × List ℕ). (l .0, l .1, m')) w ∙ ap (λ (q : Reply × List ℕ). (q .0 .refusal, recordBytes (q .0 .cart), q .1)) f)
 
   -- with a place for a number
   module _ (place : ℕ) where
@@ -35,7 +37,7 @@ module _ (call : State → Outcome) (r m : List ℕ) where
     called-at-no h = rw h
 
     pub called-at-yes : {c : Cartridge} (reply : Reply) {b m' : List ℕ} {x p : ℕ} → isRecord r ≡ true → c ≡ cartOf r → (reply, m') ≡ replied (call (state c m))
-        → b ≡ recordBytes (reply .cart)
+        → b ≡ leftBy reply .1
         → (x, p) ≡ told (reply .refusal) (reply .value) place
         → (x, b, m', p) ≡ calledAt call r m place
     unfolding calledAt
@@ -85,7 +87,7 @@ module _ (r m : List ℕ) (place : ℕ) where
 
   pub flag-yes : {c : Cartridge} (reply : Reply) {b : List ℕ} {x p : ℕ} → isRecord r ≡ true → c ≡ cartOf r
       → (reply, m) ≡ flagReplied (step takeSaveDirty [] (state c m))
-      → b ≡ recordBytes (reply .cart)
+      → b ≡ leftBy reply .1
       → (x, p) ≡ told (reply .refusal) (reply .value) place
       → (x, b, m, p) ≡ flagAt r m place
   unfolding flagAt
@@ -135,5 +137,6 @@ module _ (ask : Cartridge → Answer) (r : List ℕ) (place : ℕ) where
   asked-yes a h e f t = rw (h, ← e) (t ∙ ap (λ (b : Answer). answeredAt b place) f)
 
 -- opening
-pub opened : (image m : List ℕ) (reply : Reply) {b m' : List ℕ} → (reply, m') ≡ replied (fromBytes image m) → b ≡ recordBytes (reply .cart) → (reply .refusal, b, m') ≡ left (fromBytes image m)
-opened image m reply f g = rw g (ap (λ (q : Reply × List ℕ). (q .0 .refusal, recordBytes (q .0 .cart), q .1)) f)
+pub opened : (image m : List ℕ) (reply : Reply) {b m' : List ℕ} {x : ℕ} → (reply, m') ≡ replied (fromBytes image m) → (x, b) ≡ leftBy reply → (x, b, m') ≡ left (fromBytes image m)
+opened image m reply {m' = m'} f w =
+    ap (λ (l : ℕ × List ℕ). (l .0, l .1, m')) w ∙ ap (λ (q : Reply × List ℕ). (q .0 .refusal, recordBytes (q .0 .cart), q .1)) f

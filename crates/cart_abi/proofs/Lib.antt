@@ -1,3 +1,4 @@
 pub mod Kept
 pub mod Calls
 pub mod Answers
+pub mod Refused

@@ -3,7 +3,7 @@
 use mathlib.Core.Bool.{cond}
 use mathlib.Core.List.{List, [], _∷_}
 use Prim.Native.Nat.{ℕ}
-use lib.Dec.{leb, eqb}
+use lib.Dec.{leb}
 use Rattle.lists.specs.Questions.{_else_}
 use Rattle.image.specs.declared.Answer.{Answer}
 use Rattle.image.specs.Image.{imageQuestion, accepted, answered}
@@ -17,17 +17,11 @@ use Rattle.cart.specs.Record.{State, Outcome}
 use Rattle.cart.specs.Calls.{saveData, chipState, takeSaveDirty, step}
 use Rattle.cart.specs.Replies.{state, first}
 use Rattle.abi_record.specs.RecordBytes.{recordBytes, kindOf, cartOf, isRecord}
+use Rattle.abi_record.specs.Places.{placed, told}
 
 -- 24 bytes that are no record: `refused` is 2 with all that the call was lent
 abbrev pub ofRecord : {A : Type 0} → List ℕ → A → (Cartridge → A) → A
 ofRecord r refused call = cond (isRecord r) (call (cartOf r)) refused
-
--- a lent place behind a call that has a value for it
-abbrev pub placed : {A : Type 0} → ℕ → A → A → A
-placed refusal value place = cond (eqb refusal 0) value place
-
-abbrev pub told : ℕ → ℕ → ℕ → ℕ × ℕ
-told refusal value place = (refusal, placed refusal value place)
 
 -- answer, record and memory
 abbrev pub left : Outcome → ℕ × List ℕ × List ℕ

@@ -1,8 +1,8 @@
 // `save_read` and `save_write`: the byte calls.
-use crate::places::tell;
 use abi_record::cart_of;
 use abi_record::is_record;
-use abi_record::record_bytes;
+use abi_record::tell;
+use abi_record::write_back;
 use byte_calls::save_read;
 use byte_calls::save_write;
 ghost use mathlib.Core.Path.{_≡_};
@@ -39,7 +39,5 @@ pub extern "C" fn gbasave_save_write(
         return 2;
     }
     let reply = save_write(cart_of(cart), memory, address, value);
-    let next = reply.cart;
-    *cart = record_bytes(next);
-    reply.refusal as u32
+    write_back(reply, cart)
 }

@@ -1,5 +1,5 @@
 // What is asked of an image alone.
-use crate::places::tell;
+use abi_record::tell;
 use crc::rom_crc;
 use image::header_checksum;
 use image::image_length;

@@ -2,7 +2,6 @@
 
 mod bytes;
 mod images;
-mod places;
 mod save_files;
 mod serial;
 mod sizes;

@@ -1,8 +1,8 @@
 // `load_save`, `save_data` and import: the file calls.
-use crate::places::tell;
 use abi_record::cart_of;
 use abi_record::is_record;
-use abi_record::record_bytes;
+use abi_record::tell;
+use abi_record::write_back;
 use file_calls::import_save;
 use file_calls::load_save;
 use file_calls::save_data;
@@ -19,9 +19,7 @@ pub extern "C" fn gbasave_load_save(cart: &mut [u8; 24], memory: &mut [u8], file
         return 2;
     }
     let reply = load_save(cart_of(cart), memory, file);
-    let next = reply.cart;
-    *cart = record_bytes(next);
-    reply.refusal as u32
+    write_back(reply, cart)
 }
 
 // Kind None has no file: the length is then 0.
@@ -54,7 +52,6 @@ pub extern "C" fn gbasave_import_save(
         return 2;
     }
     let reply = import_save(cart_of(cart), memory, file);
-    let next = reply.cart;
-    *cart = record_bytes(next);
+    write_back(reply, cart);
     tell(reply.refusal, reply.value, kept)
 }

@@ -1,8 +1,8 @@
 // `eeprom_begin_dma`, `eeprom_write` and `eeprom_read`: the serial calls.
-use crate::places::tell;
 use abi_record::cart_of;
 use abi_record::is_record;
-use abi_record::record_bytes;
+use abi_record::tell;
+use abi_record::write_back;
 use serial_calls::eeprom_begin_dma;
 use serial_calls::eeprom_read;
 use serial_calls::eeprom_write;
@@ -21,9 +21,7 @@ pub extern "C" fn gbasave_eeprom_begin_dma(cart: &mut [u8; 24], words: u32) -> u
         return 2;
     }
     let reply = eeprom_begin_dma(cart_of(cart), words as usize);
-    let next = reply.cart;
-    *cart = record_bytes(next);
-    reply.refusal as u32
+    write_back(reply, cart)
 }
 
 #[no_mangle]
@@ -34,9 +32,7 @@ pub extern "C" fn gbasave_eeprom_write(cart: &mut [u8; 24], memory: &mut [u8], v
         return 2;
     }
     let reply = eeprom_write(cart_of(cart), memory, value);
-    let next = reply.cart;
-    *cart = record_bytes(next);
-    reply.refusal as u32
+    write_back(reply, cart)
 }
 
 #[no_mangle]
@@ -47,7 +43,6 @@ pub extern "C" fn gbasave_eeprom_read(cart: &mut [u8; 24], memory: &[u8], bit: &
         return 2;
     }
     let reply = eeprom_read(cart_of(cart), memory);
-    let next = reply.cart;
-    *cart = record_bytes(next);
+    write_back(reply, cart);
     tell(reply.refusal, reply.value, bit)
 }

@@ -1,8 +1,8 @@
 // Opening, `chip_state`, restore, `take_save_dirty`, and what is asked of a record alone.
-use crate::places::tell;
 use abi_record::cart_of;
 use abi_record::is_record;
-use abi_record::record_bytes;
+use abi_record::tell;
+use abi_record::write_back;
 use state_calls::chip_state;
 use state_calls::eeprom_window_start;
 use state_calls::from_bytes;
@@ -22,9 +22,7 @@ pub extern "C" fn gbasave_from_bytes(cart: &mut [u8; 24], image: &[u8], memory: 
     ensures { λ x. ⌜ (x, now (cart .exit), now (memory .exit)) ≡ left (fromBytes (now (image .entry)) (now (memory .entry))) ⌝ }
 {
     let reply = from_bytes(image, memory);
-    let next = reply.cart;
-    *cart = record_bytes(next);
-    reply.refusal as u32
+    write_back(reply, cart)
 }
 
 // The calls below are lent no memory: whichever one stands beside the record stays.
@@ -52,9 +50,7 @@ pub extern "C" fn gbasave_restore_chip_state(cart: &mut [u8; 24], bytes: &[u8]) 
         return 2;
     }
     let reply = restore_chip_state(cart_of(cart), bytes);
-    let next = reply.cart;
-    *cart = record_bytes(next);
-    reply.refusal as u32
+    write_back(reply, cart)
 }
 
 #[no_mangle]
@@ -65,8 +61,7 @@ pub extern "C" fn gbasave_take_save_dirty(cart: &mut [u8; 24], flag: &mut u32) -
         return 2;
     }
     let reply = take_save_dirty(cart_of(cart));
-    let next = reply.cart;
-    *cart = record_bytes(next);
+    write_back(reply, cart);
     tell(reply.refusal, reply.value, flag)
 }
 

@@ -129,7 +129,7 @@ impl<'a> Pair<'a> {
         self.run.calls += 1;
         if let Some(difference) = self.difference(answers) {
             let before: Vec<String> = self.recent.iter().flatten().map(Call::frame).collect();
-            self.run.differ(&format!("kind {}, {}: {difference}\n  the last calls: {}", self.kind, call(), before.join(" ")));
+            self.run.differ(&format!("{}: {difference}\n  the last calls: {}", call(), before.join(" ")));
         }
     }
 
@@ -146,7 +146,7 @@ impl<'a> Pair<'a> {
             return Some(format!("the original's flag is {}; the part's is {}", flags[0], flags[1]));
         }
         let record = self.part.record();
-        if record[..5] != self.identity || record[6..] != chips[1] {
+        if record[..5] != self.identity || record[5] > 1 || record[6..] != chips[1] {
             return Some(format!("the part's record is {}", hex(record)));
         }
         if self.original.memory() != self.part.memory() {

@@ -1,5 +1,4 @@
 -- `cart_abi::save_files::gbasave_load_save` meets its contract. Assumes nothing.
--- `cart_abi::save_files::gbasave_load_save` meets its contract. Assumes nothing.
 use mathlib.Core.List.{[]}
 use Rattle.cart.specs.Calls.{loadSave, step}
 use Rattle.lists.proofs.Bools.{denied, granted}
@@ -15,7 +14,7 @@ cart-of-requires : tie.Need-cart-of-requires
 cart-of-requires c κs = granted _ (c .before .before .is-record .ensures) (c .before .if1 .left)
 
 returns-2 : tie.Need-returns-2
-returns-2 c = let a = c .before .before .before .before .before .before .before .before .before .before .before .before .before .before .args in called-yes (step (loadSave (a .file .now)) []) (a .cart .now) (a .memory .now) (c .before .before .before .before .before .load-save .result) (granted _ (c .before .before .before .before .before .before .before .before .before .before .is-record .ensures) (c .before .before .before .before .before .before .before .before .before .if1 .left)) (c .before .before .before .before .before .before .before .cart-of .ensures .0) (c .before .before .before .before .before .load-save .ensures) (c .before .record-bytes .ensures)
+returns-2 c = let a = c .before .before .before .before .before .before .before .before .before .before .before .before .before .args in called-yes (step (loadSave (a .file .now)) []) (a .cart .now) (a .memory .now) (c .before .before .before .before .load-save .result) (granted _ (c .before .before .before .before .before .before .before .before .before .is-record .ensures) (c .before .before .before .before .before .before .before .before .if1 .left)) (c .before .before .before .before .before .before .cart-of .ensures .0) (c .before .before .before .before .load-save .ensures) (c .write-back .ensures)
 
 pub gbasave-load-save-spec : {M : Type 1} → statement M
 gbasave-load-save-spec =
@@ -26,6 +25,5 @@ gbasave-load-save-spec =
     cart-of-requires
     (λ c κs. search needs)
     (λ c κs. search needs)
-    (λ c. search needs)
     (λ c. search needs)
     returns-2)

@@ -1,5 +1,4 @@
 -- `cart_abi::serial::gbasave_eeprom_begin_dma` meets its contract. Assumes nothing.
--- `cart_abi::serial::gbasave_eeprom_begin_dma` meets its contract. Assumes nothing.
 use mathlib.Core.List.{[]}
 use Rattle.cart.specs.Calls.{eepromBeginDma, step}
 use Rattle.lists.proofs.Bools.{denied, granted}
@@ -15,7 +14,7 @@ cart-of-requires : tie.Need-cart-of-requires
 cart-of-requires c κs = granted _ (c .before .before .is-record .ensures) (c .before .if1 .left)
 
 returns-2 : tie.Need-returns-2
-returns-2 c = let a = c .before .before .before .before .before .before .before .before .before .args in λ m. called-yes (step (eepromBeginDma (a .words)) []) (a .cart .now) m (c .before .before .before .eeprom-begin-dma .result) (granted _ (c .before .before .before .before .before .before .before .is-record .ensures) (c .before .before .before .before .before .before .if1 .left)) (c .before .before .before .before .cart-of .ensures .0) (c .before .before .before .eeprom-begin-dma .ensures m) (c .before .record-bytes .ensures)
+returns-2 c = let a = c .before .before .before .before .before .before .before .before .args in λ m. called-yes (step (eepromBeginDma (a .words)) []) (a .cart .now) m (c .before .before .eeprom-begin-dma .result) (granted _ (c .before .before .before .before .before .before .is-record .ensures) (c .before .before .before .before .before .if1 .left)) (c .before .before .before .cart-of .ensures .0) (c .before .before .eeprom-begin-dma .ensures m) (c .write-back .ensures)
 
 pub gbasave-eeprom-begin-dma-spec : {M : Type 1} → statement M
 gbasave-eeprom-begin-dma-spec =
@@ -26,5 +25,4 @@ gbasave-eeprom-begin-dma-spec =
     cart-of-requires
     (λ c κs. search needs)
     (λ c κs. search needs)
-    (λ c. search needs)
     returns-2)

@@ -1,5 +1,7 @@
 -- `cart_abi::serial::gbasave_eeprom_read` meets its contract. Assumes nothing.
-use mathlib.Core.List.{[]}
+use mathlib.Core.Path.{ap}
+use Prim.Native.Nat.{ℕ}
+use mathlib.Core.List.{List, []}
 use Rattle.lists.proofs.Bools.{denied, granted}
 use Rattle.cart.specs.Calls.{eepromRead, step}
 use Rattle.cart_abi.proofs.Calls.{called-at-no, called-at-yes}
@@ -14,7 +16,7 @@ cart-of-requires : tie.Need-cart-of-requires
 cart-of-requires c κs = granted _ (c .before .before .is-record .ensures) (c .before .if1 .left)
 
 returns-2 : tie.Need-returns-2
-returns-2 c = let a = c .before .before .before .before .before .before .before .before .before .before .before .args in called-at-yes (step eepromRead []) (a .cart .now) (a .memory .now) (a .bit .now) (c .before .before .before .before .eeprom-read .result) (granted _ (c .before .before .before .before .before .before .before .before .is-record .ensures) (c .before .before .before .before .before .before .before .if1 .left)) (c .before .before .before .before .before .cart-of .ensures .0) (c .before .before .before .before .eeprom-read .ensures) (c .before .before .record-bytes .ensures) (c .tell .ensures)
+returns-2 c = let a = c .before .before .before .before .before .before .before .before .before .before .before .args in called-at-yes (step eepromRead []) (a .cart .now) (a .memory .now) (a .bit .now) (c .before .before .before .before .eeprom-read .result) (granted _ (c .before .before .before .before .before .before .before .before .is-record .ensures) (c .before .before .before .before .before .before .before .if1 .left)) (c .before .before .before .before .before .cart-of .ensures .0) (c .before .before .before .before .eeprom-read .ensures) (ap (λ (l : ℕ × List ℕ). l .1) (c .before .before .write-back .ensures)) (c .tell .ensures)
 
 pub gbasave-eeprom-read-spec : {M : Type 1} → statement M
 gbasave-eeprom-read-spec =

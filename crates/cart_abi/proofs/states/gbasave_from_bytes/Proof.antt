@@ -5,8 +5,8 @@ use Rattle.cart_abi.proofs.states.gbasave_from_bytes.Statement.{stateme
 use Rattle.cart_abi.proofs.states.gbasave_from_bytes.Tie as tie
 
 returns : tie.Need-returns
-returns c = let a = c .before .before .before .before .before .before .before .before .before .args in opened (a .image .now) (a .memory .now) (c .before .before .before .before .before .from-bytes .result) (c .before .before .before .before .before .from-bytes .ensures) (c .before .record-bytes .ensures)
+returns c = let a = c .before .before .before .before .before .before .before .before .args in opened (a .image .now) (a .memory .now) (c .before .before .before .before .from-bytes .result) (c .before .before .before .before .from-bytes .ensures) (c .write-back .ensures)
 
 pub gbasave-from-bytes-spec : {M : Type 1} → statement M
 gbasave-from-bytes-spec =
-    tie.close (tie.spec (λ c κs. search needs) (λ c κs. search needs) (λ c. search needs) (λ c. search needs) returns)
+    tie.close (tie.spec (λ c κs. search needs) (λ c κs. search needs) (λ c. search needs) returns)

@@ -1,5 +1,4 @@
 -- `cart_abi::states::gbasave_restore_chip_state` meets its contract. Assumes nothing.
--- `cart_abi::states::gbasave_restore_chip_state` meets its contract. Assumes nothing.
 use Rattle.cart.specs.Calls.{restore}
 use Rattle.lists.proofs.Bools.{denied, granted}
 use Rattle.cart_abi.proofs.Calls.{called-no, called-yes}
@@ -14,7 +13,7 @@ cart-of-requires : tie.Need-cart-of-requires
 cart-of-requires c κs = granted _ (c .before .before .is-record .ensures) (c .before .if1 .left)
 
 returns-2 : tie.Need-returns-2
-returns-2 c = let a = c .before .before .before .before .before .before .before .before .before .before .args in λ m. called-yes (restore (a .bytes .now)) (a .cart .now) m (c .before .before .before .restore-chip-state .result) (granted _ (c .before .before .before .before .before .before .before .is-record .ensures) (c .before .before .before .before .before .before .if1 .left)) (c .before .before .before .before .cart-of .ensures .0) (c .before .before .before .restore-chip-state .ensures m) (c .before .record-bytes .ensures)
+returns-2 c = let a = c .before .before .before .before .before .before .before .before .before .args in λ m. called-yes (restore (a .bytes .now)) (a .cart .now) m (c .before .before .restore-chip-state .result) (granted _ (c .before .before .before .before .before .before .is-record .ensures) (c .before .before .before .before .before .if1 .left)) (c .before .before .before .cart-of .ensures .0) (c .before .before .restore-chip-state .ensures m) (c .write-back .ensures)
 
 pub gbasave-restore-chip-state-spec : {M : Type 1} → statement M
 gbasave-restore-chip-state-spec =
@@ -25,5 +24,4 @@ gbasave-restore-chip-state-spec =
     cart-of-requires
     (λ c κs. search needs)
     (λ c κs. search needs)
-    (λ c. search needs)
     returns-2)

@@ -1,8 +1,7 @@
--- `cart_abi::places::tell` meets its contract. Assumes nothing.
--- `cart_abi::places::tell` meets its contract. Assumes nothing.
+-- `abi_record::tell` meets its contract. Assumes nothing.
 use borrow.Author.Tests.{ne-eqb}
-use Rattle.cart_abi.proofs.places.tell.Statement.{statement}
-use Rattle.cart_abi.proofs.places.tell.Tie as tie
+use Rattle.abi_record.proofs.tell.Statement.{statement}
+use Rattle.abi_record.proofs.tell.Tie as tie
 
 returns : tie.Need-returns
 returns c = rw (ne-eqb _ _ (c .if1 .taken))
