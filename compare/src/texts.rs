@@ -1,27 +1,27 @@
-//! The texts that stand in images, by number: game codes, markers, titles, and what nearly is one.
+//! The texts that stand in images: game codes, markers, titles, and what nearly is one.
 
 pub const TEXTS: [&[u8]; 80] = [
     b"",
-    // 01: the markers
+    // the markers
     b"SRAM_V",
     b"FLASH_V",
     b"FLASH512_V",
     b"FLASH1M_V",
     b"EEPROM_V",
-    // 06: the game codes
+    // the game codes
     b"GBXP",
     b"GBXJ",
     b"GBXE",
     b"GB4P",
     b"GB4J",
     b"GB4E",
-    // 0C: the title that decides, and those that are too long
+    // the title that decides, and those that are too long
     b"POKEMON RUBY",
     b"POKEMON SAPPHIRE",
     b"POKEMON EMERALD",
     b"POKEMON FIRERED",
     b"POKEMON LEAFGREEN",
-    // 11: not quite
+    // not quite
     b"SRAM_W",
     b"SRAM-V",
     b"sram_v",
@@ -38,7 +38,7 @@ pub const TEXTS: [&[u8]; 80] = [
     b"POKEMON RUBX",
     b"pOKEMON RUBY",
     b"POKEMON RUB",
-    // 21: several, in another order than they are tried
+    // several, in another order than they are tried
     b"FLASH_VSRAM_V",
     b"FLASH512_VSRAM_V",
     b"FLASH1M_VFLASH_V",
@@ -48,7 +48,7 @@ pub const TEXTS: [&[u8]; 80] = [
     b"EEPROM_VFLASH_V",
     b"EEPROM_VSRAM_V",
     b"EEPROM_VFLASH1M_VFLASH512_VSRAM_V",
-    // 2A: a marker behind its own beginning
+    // a marker behind its own beginning
     b"SRAM_SRAM_V",
     b"SSRAM_V",
     b"FLASHFLASH_V",
@@ -56,23 +56,23 @@ pub const TEXTS: [&[u8]; 80] = [
     b"FLASH1FLASH1M_V",
     b"EEEPROM_V",
     b"EEPROM_EEPROM_V",
-    // 31: title, game code and marker together
+    // title, game code and marker together
     b"POKEMON RUBYGBXE",
     b"POKEMON RUBYGB4PSRAM_V",
     b"POKEMON RUBYAXVESRAM_V",
     b"POKEMON RUBYAXVEEEPROM_V",
     b"GB4JSRAM_V",
     b"GBXPFLASH1M_V",
-    // 37: titles with zero bytes
+    // titles with zero bytes
     b"A\0B\0\0\0\0\0\0\0\0\0",
     b"\0\0\0\0\0\0\0\0\0\0\0Z",
     b"POKEMON RUB\0",
-    // 3A: well-formed sequences at their limits
+    // well-formed sequences at their limits
     b"\xC2\x80\xDF\xBF\xE0\xA0\x80\xED\x9F\xBF\xC3\xA9",
     b"\xEE\x80\x80\xEF\xBF\xBF\xE2\x82\xAC\xE1\x80\x80",
     b"\xF0\x90\x80\x80\xF4\x8F\xBF\xBF\xF1\x80\x80\x80",
     b"\xEF\xBF\xBD\xEF\xBF\xBD\xEF\xBF\xBD\xEF\xBF\xBD",
-    // 3E: ill-formed ones
+    // ill-formed ones
     b"\xFF\xFF\xFF\xFF\xFF\xFF\xFF\xFF\xFF\xFF\xFF\xFF",
     b"\x80\xBF\x80A\xC0\xAF\xC1\xBF\xF5\xFE\0\0",
     b"\xE0\x80\x80\xE0\x9F\xBF\xED\xA0\x80\xED\xBF\xBF",
@@ -82,7 +82,7 @@ pub const TEXTS: [&[u8]; 80] = [
     b"\xC2\xC2\xC2\xC2\xC2\xC2\xC2\xC2\xC2\xC2\xC2\xC2",
     b"\xE2\x82\xE2\x82\xE2\x82\xE2\x82\xE2\x82\xE2\x82",
     b"\xC2\0\xE2\x82\0\xF0\x9F\x98\0\xC2\0\0",
-    // 47: sequences cut off by the title's end, whatever stands behind it
+    // sequences cut off by the title's end, whatever stands behind it
     b"ABCDEFGHIJK\xC2\x80\x80\x80",
     b"ABCDEFGHIJ\xE2\x82\xAC\xAC",
     b"ABCDEFGHI\xF0\x9F\x98\x80",

@@ -1,12 +1,17 @@
 -- GBATEK's flash commands. Assumes nothing.
 use mathlib.Core.Path.{_≡_, ap, _∙_}
-use mathlib.Core.Bool.{Bool, true, false}
+use mathlib.Core.Bool.{Bool, true, false, cond, _&&_}
 use mathlib.Core.List.{List, [], _∷_}
-use Prim.Native.Nat.{ℕ, _+_, _*_, _/_, _%_, _≤_, _<_}
+use Prim.Native.Nat.{ℕ, _+_, _*_, _-_, _/_, _%_, _≤_, _<_}
 use native.Mathlib.Omega.{arith}
-use lib.ListN.{length, getD, set}
+use lib.Dec.{leb, ltb}
+use lib.ListN.{length, getD, set, getD-replicate}
+use borrow.Author.Tests.{ltb-true}
+use Rattle.lists.proofs.Bools.{cases, and-right}
+use Rattle.lists.proofs.Parts.{part-at}
 use Rattle.lists.specs.Lists.{withPart}
 use Rattle.memory.specs.Memory.{Held, erased, stored}
+use Rattle.memory.proofs.Memory.{length-erased}
 use Rattle.flash.specs.declared.Flash.{Flash}
 use Rattle.flash.specs.Flash.{place, flashRead, unlock, command, erase, flashWrite, writeByte}
 use Rattle.flash.specs.Gbatek.{write, enterId, leaveId, eraseChip, eraseSector, program, selectBank, written, ChipBytes, bytes64K, bytes128K, Idle, base, idleChip, Commands}
@@ -20,6 +25,20 @@ place-by bytes128K f a b h = omega arith
 sector-by : {n : ℕ} → ChipBytes n → (b k : ℕ) → (65536 * b % n + 4096 * k) / 4096 * 4096 ≡ 65536 * b % n + 4096 * k
 sector-by bytes64K b k = omega arith
 sector-by bytes128K b k = omega arith
+
+sector-in : {n : ℕ} → ChipBytes n → (b k : ℕ) → b ≤ 1 → k < 16 → 65536 * b % n + 4096 * k + 4096 ≤ n
+sector-in bytes64K b k h j = omega arith
+sector-in bytes128K b k h j = omega arith
+
+-- an erased byte where the test has it within the sector
+erased-or : (a p v : ℕ) → let t = leb a p && ltb p (a + 4096) in cond t (getD (erased 4096) (p - a) 0) v ≡ cond t 0xff v
+unfolding erased
+erased-or a p v =
+    cases (leb a p && ltb p (a + 4096))
+    (λ e.
+    let h : p < a + 4096 = ltb-true p (a + 4096) (and-right (leb a p) (ltb p (a + 4096)) e) in
+    rw e (getD-replicate 4096 (p - a) 0xff 0 (omega (arith, h))))
+    (λ e. rw e)
 
 module _ (x : Held Flash) (i : Idle x) where
   abbrev b : ℕ
@@ -57,6 +76,16 @@ module _ (x : Held Flash) (i : Idle x) where
       ∙ ap (λ (p : ℕ). idleChip b on (withPart m (p / 4096 * 4096) (erased 4096)) true) (shown (4096 * n) (omega arith))
       ∙ ap (λ (p : ℕ). idleChip b on (withPart m p (erased 4096)) true) (sector-by (i .size) b n)
 
+  sector-bytes : (n p : ℕ) → n < 16
+      → getD (written (eraseSector n) x .memory) p 0 ≡ cond (leb (base x + 4096 * n) p && ltb p (base x + 4096 * n + 4096)) 0xff (getD m p 0)
+  sector-bytes n p h =
+      let a : ℕ = base x + 4096 * n in
+      let l : length (erased 4096) ≡ 4096 = length-erased 4096 in
+      let f : a + length (erased 4096) ≤ length m = rw l (sector-in (i .size) b n (i .bankOk) h) in
+      ap (λ (y : Held Flash). getD (y .memory) p 0) (erases-one n h)
+      ∙ part-at m a (erased 4096) p f
+      ∙ rw l (erased-or a p (getD m p 0))
+
   spared : (p q r t : ℕ) → written (write p 0xaa ∷ write q 0x55 ∷ write r 0x80 ∷ write t 0x30 ∷ []) x ≡ idleChip b on m (x .dirty)
   unfolding written writeByte flashWrite unlock command stored
   spared p q r t = ap (written (write p 0xaa ∷ write q 0x55 ∷ write r 0x80 ∷ write t 0x30 ∷ [])) idle
@@ -87,6 +116,7 @@ commands x i =
       leavesId = leaves x i;
       erases = erases-all x i;
       erasesSector = erases-one x i;
+      sectorBytes = sector-bytes x i;
       spares = spared x i;
       programs = programmed x i;
       selects = selected x i;

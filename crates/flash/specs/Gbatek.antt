@@ -1,8 +1,9 @@
 -- GBATEK, Backup Flash ROM: each command as the byte writes that make it.
 use mathlib.Core.Path.{_≡_}
-use mathlib.Core.Bool.{Bool, true, false}
+use mathlib.Core.Bool.{Bool, true, false, cond, _&&_}
 use mathlib.Core.List.{List, [], _∷_, _++_}
 use Prim.Native.Nat.{ℕ, _+_, _*_, _%_, _≤_, _<_}
+use lib.Dec.{leb, ltb}
 use lib.ListN.{length, getD, set}
 use Rattle.lists.specs.Lists.{withPart}
 use Rattle.memory.specs.Memory.{Held, erased}
@@ -74,6 +75,9 @@ pub record Commands (x : Held Flash) : Type 0 where
   pub erases : written eraseChip x ≡ idleChip (x .chip .bank) (x .chip .id) (erased (length (x .memory))) true
   pub erasesSector : (n : ℕ) → n < 16
       → written (eraseSector n) x ≡ idleChip (x .chip .bank) (x .chip .id) (withPart (x .memory) (base x + 4096 * n) (erased 4096)) true
+  -- the sector's bytes, and no other
+  pub sectorBytes : (n p : ℕ) → n < 16
+      → getD (written (eraseSector n) x .memory) p 0 ≡ cond (leb (base x + 4096 * n) p && ltb p (base x + 4096 * n + 4096)) 0xff (getD (x .memory) p 0)
   -- case (i): AAh, 55h, 80h, 30h, without the second unlock
   pub spares : (p q r t : ℕ) → written (write p 0xaa ∷ write q 0x55 ∷ write r 0x80 ∷ write t 0x30 ∷ []) x ≡ idleChip (x .chip .bank) (x .chip .id) (x .memory) (x .dirty)
   pub programs : (a v : ℕ) → a < 65536 → written (program a v) x ≡ idleChip (x .chip .bank) (x .chip .id) (set (x .memory) (base x + a) v) true

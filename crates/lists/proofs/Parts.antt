@@ -1,15 +1,15 @@
 -- Lists with a part replaced. Assumes nothing.
 use mathlib.Core.Path.{_≡_, refl, sym, ap, subst, _∙_}
-use mathlib.Core.Bool.{cond}
+use mathlib.Core.Bool.{cond, _&&_}
 use mathlib.Core.List.{List, [], _∷_, _++_, append-nil}
 use Prim.Native.Nat.{ℕ, zero, suc, _+_, _-_, _≤_, _<_}
 use native.Mathlib.Nat.{zero-add, suc-add, add-suc}
 use native.Mathlib.Numerals.{add-one}
 use native.Mathlib.Omega.{arith}
-use lib.Dec.{eqb}
+use lib.Dec.{eqb, leb, ltb}
 use lib.ListN.{length, getD, set, take, drop, length-append, length-take, length-drop, take-append-drop}
-use lib.Seq.{sets, sets-eq, drop-length, take-nil, take-all, take-length, slice, slice-cons, slice-empty, drop-at, drop-append-le, take-append-le, drop-cons, getD-set-same, getD-set-other, drop-append-add, drop-drop, length-take-le, take-append-seam}
-use borrow.Author.Tests.{eqb-true, eqb-false, eq-eqb, ne-eqb}
+use lib.Seq.{sets, sets-eq, drop-length, take-nil, take-all, take-length, slice, slice-cons, slice-empty, drop-at, drop-append-le, take-append-le, drop-cons, getD-set-same, getD-set-other, drop-append-add, getD-append-add, getD-take, getD-drop, drop-drop, length-take-le, take-append-seam}
+use borrow.Author.Tests.{leb-true, leb-false, ltb-true, ltb-false, eqb-true, eqb-false, eq-eqb, ne-eqb}
 use Rattle.lists.proofs.Bools.{cases}
 use Rattle.lists.specs.Lists.{fold, withPart, into}
 
@@ -116,6 +116,39 @@ pub part-same : (m : List ℕ) (a : ℕ) (ys : List ℕ) → a ≤ length m → 
 unfolding withPart
 part-same m a ys h =
     rw (drop-at (take a m) (ys ++ drop (a + length ys) m) a (length-take-le a m h)) (take-append-seam ys (drop (a + length ys) m))
+
+-- what stands at place p behind a new part: within it and outside it
+left-at : (xs ys : List ℕ) (i : ℕ) → i < length xs → getD (xs ++ ys) i 0 ≡ getD xs i 0
+left-at [] ys i h = absurd (omega arith)
+left-at (x ∷ xs) ys zero h = refl
+left-at (x ∷ xs) ys (suc i) h = left-at xs ys i (omega arith)
+
+right-at : (xs ys : List ℕ) (n i : ℕ) → length xs ≡ n → n ≤ i → getD (xs ++ ys) i 0 ≡ getD ys (i - n) 0
+right-at xs ys n i e h =
+    let q : i ≡ length xs + (i - n) = omega arith in
+    ap (λ (k : ℕ). getD (xs ++ ys) k 0) q ∙ getD-append-add xs ys (i - n) 0
+
+pub part-at : (m : List ℕ) (a : ℕ) (ys : List ℕ) (p : ℕ) → a + length ys ≤ length m
+    → getD (withPart m a ys) p 0 ≡ cond (leb a p && ltb p (a + length ys)) (getD ys (p - a) 0) (getD m p 0)
+unfolding withPart
+part-at m a ys p h =
+    let l : length (take a m) ≡ a = length-take-le a m (omega arith) in
+    cases (leb a p)
+    (λ e.
+    let b : a ≤ p = leb-true a p e in
+    right-at (take a m) (ys ++ drop (a + length ys) m) a p l b
+    ∙ cases (ltb p (a + length ys))
+    (λ f. rw (e, f) (left-at ys (drop (a + length ys) m) (p - a) (omega (arith, ltb-true p (a + length ys) f, b))))
+    (λ f.
+    let c : length ys ≤ p - a = omega (arith, ltb-false p (a + length ys) f) in
+    let q : a + length ys + (p - a - length ys) ≡ p = omega (arith, c, b) in
+    rw (e, f)
+    (right-at ys (drop (a + length ys) m) (length ys) (p - a) refl c
+    ∙ getD-drop (a + length ys) m (p - a - length ys) 0
+    ∙ ap (λ (k : ℕ). getD m k 0) q)))
+    (λ e.
+    let b : p < a = leb-false a p e in
+    rw e (left-at (take a m) (ys ++ drop (a + length ys) m) p (omega arith) ∙ getD-take a m p 0 b))
 
 -- what stands at place p behind a store
 pub set-at : (m : List ℕ) (q v p : ℕ) → q < length m → getD (set m q v) p 0 ≡ cond (eqb p q) v (getD m p 0)

@@ -22,23 +22,23 @@ pub fn lines(random: &mut Random) -> String {
         lines += &format!("0D{kind:02X} 00{:08X}\n", original::save_size(&image));
     }
     for length in [0, 1, 0xAC, 0xBD, 0xBF] {
-        lines += &image_line(length, 0x11, 0, 0);
+        lines += &image_line(length, 0x11, 0, b"");
     }
-    for (number, text) in TEXTS.iter().enumerate() {
+    for text in TEXTS {
         // In the header, first and last in the image, and with its last byte cut off.
-        lines += &image_line(SMALLEST, 0, 0xA0, number);
-        lines += &image_line(SMALLEST, random.byte(), 0xAC, number);
+        lines += &image_line(SMALLEST, 0, 0xA0, text);
+        lines += &image_line(SMALLEST, random.byte(), 0xAC, text);
         let length = 193 + random.below(3900) as usize;
-        lines += &image_line(length, random.byte(), 0, number);
-        lines += &image_line(length, random.byte(), length - text.len(), number);
-        lines += &image_line(length, 0, (length + 1 - text.len()).min(length), number);
+        lines += &image_line(length, random.byte(), 0, text);
+        lines += &image_line(length, random.byte(), length - text.len(), text);
+        lines += &image_line(length, 0, (length + 1 - text.len()).min(length), text);
     }
     lines
 }
 
-fn image_line(length: usize, seed: u8, offset: usize, number: usize) -> String {
-    let image = image(length, seed, offset, TEXTS[number]);
-    format!("10{length:08X}{seed:02X}{offset:08X}{number:02X} {}\n", answer(&image))
+fn image_line(length: usize, seed: u8, offset: usize, text: &[u8]) -> String {
+    let image = image(length, seed, offset, text);
+    format!("10{length:08X}{seed:02X}{offset:08X}{} {}\n", hex(text), answer(&image))
 }
 
 fn answer(image: &[u8]) -> String {

@@ -1,20 +1,16 @@
-//! Writes the list of the original's answers to standard output. One word: the seed of its random parts, in hexadecimal;
-//! or `texts`, for the table of texts.
+//! Writes the list of the original's answers to standard output. One word: the seed of its random parts, in hexadecimal.
 
 mod image_lines;
 mod list;
 mod stories;
 
 use compare::random::Random;
-use compare::records::hex;
-use compare::texts::TEXTS;
 
 const SEED: u64 = 1;
 
 fn main() {
     match std::env::args().nth(1).as_deref() {
         None => write_list(SEED),
-        Some("texts") => write_texts(),
         Some(word) => match u64::from_str_radix(word, 16) {
             Ok(seed) => write_list(seed),
             Err(_) => {
@@ -28,10 +24,4 @@ fn main() {
 fn write_list(seed: u64) {
     let random = &mut Random::new(seed);
     print!("{}{}", stories::lines(random), image_lines::lines(random));
-}
-
-fn write_texts() {
-    for (number, text) in TEXTS.iter().enumerate() {
-        println!("{number:02X} {} {}", hex(text), text.escape_ascii());
-    }
 }

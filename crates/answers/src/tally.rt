@@ -1,0 +1,79 @@
+// What is counted.
+use crate::digits::pair;
+use crate::print;
+use hex::character;
+use std::num::wrapping_add_u64;
+
+// How many lines there were, how many of them differ, and how many have an answer, by the frame's number.
+pub struct Tally {
+    pub lines: u64,
+    pub differ: u64,
+    pub frames: [u64; 17],
+}
+
+pub fn no_lines() -> Tally {
+    Tally {
+        lines: 0,
+        differ: 0,
+        frames: [0; 17],
+    }
+}
+
+fn one_more(frames: [u64; 17], number: usize) -> [u64; 17] {
+    let mut next = frames;
+    if number < 17 {
+        next[number] = wrapping_add_u64(next[number], 1);
+    }
+    next
+}
+
+fn number_of(frame: &[u8]) -> usize {
+    if frame.len() < 2 {
+        return 256;
+    }
+    pair(frame[0], frame[1]) as usize
+}
+
+// One more line.
+pub fn counted(tally: Tally, frame: &[u8], answered: bool, agrees: bool) -> Tally {
+    let mut next = tally;
+    next.lines = wrapping_add_u64(next.lines, 1);
+    if !agrees {
+        next.differ = wrapping_add_u64(next.differ, 1);
+    }
+    if answered {
+        let frames = next.frames;
+        let more = one_more(frames, number_of(frame));
+        next.frames = more;
+    }
+    next
+}
+
+fn print_frame(number: u8, count: u64) {
+    if count == 0 {
+        return;
+    }
+    print(b"frame ");
+    let digits = [character(number / 16), character(number % 16)];
+    print(&digits);
+    print(b": ");
+    io::print_decimal(1, count);
+    print(b"\n");
+}
+
+fn print_frames(frames: &[u64; 17]) {
+    let mut i: u8 = 0;
+    while i < 17 {
+        print_frame(i, frames[i as usize]);
+        i += 1;
+    }
+}
+
+pub fn print_tally(tally: Tally) {
+    let frames = tally.frames;
+    print_frames(&frames);
+    io::print_decimal(1, tally.lines);
+    print(b" answers replayed, ");
+    io::print_decimal(1, tally.differ);
+    print(b" differ\n");
+}
