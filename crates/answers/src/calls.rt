@@ -9,6 +9,9 @@ use crate::kinds::fit;
 use crate::kinds::kind_of;
 use crate::kinds::size;
 use crate::made::make_file;
+use crate::rooms::at_most;
+use crate::rooms::file_room;
+use crate::rooms::line_room;
 use cart::Cartridge;
 use cart::Reply;
 use cart::fresh_cart;
@@ -28,16 +31,8 @@ use memory::erase;
 use state_calls::restore_chip_state;
 use trace::Played;
 use trace::play;
-ghost use mathlib.Core.Path.{_≡_};
 ghost use Prim.Native.Nat.{_≤_};
 ghost use lib.ListN.{length};
-
-// The largest file of the list, and more than the save memory of any kind.
-pub fn file_room() -> [u8; 131328]
-    ensures { λ r. ⌜ 131328 ≡ length r ⌝ }
-{
-    [0; 131328]
-}
 
 fn played(cart: Cartridge, len: usize) -> Played {
     Played {
@@ -46,7 +41,7 @@ fn played(cart: Cartridge, len: usize) -> Played {
     }
 }
 
-// Of a text that is no frame.
+// To a text that is no frame.
 fn no_answer(cart: Cartridge) -> Played {
     played(cart, 0)
 }
@@ -83,17 +78,30 @@ fn trace_frame(text: &[u8], cart: Cartridge, memory: &mut [u8], out: &mut [u8]) 
     play(frame, cart, memory, out)
 }
 
+fn load_made(
+    file: &mut [u8],
+    seed: u8,
+    cart: Cartridge,
+    memory: &mut [u8],
+    out: &mut [u8],
+) -> Played
+    requires { ⌜ 256 ≤ length (now out) ⌝ }
+{
+    make_file(file, seed);
+    status(load_save(cart, memory, file), out)
+}
+
 // 08 length (6) seed (2).
 fn load(s: &[u8], cart: Cartridge, memory: &mut [u8], out: &mut [u8]) -> Played
     requires { ⌜ 256 ≤ length (now out) ⌝ }
 {
     let len = (number(s, 0) % 16777216) as usize;
     let mut file = file_room();
-    if file.len() < len {
+    let n = at_most(len, &file);
+    if n != len {
         return no_answer(cart);
     }
-    make_file(&mut file[..len], byte(s, 4));
-    status(load_save(cart, memory, &file[..len]), out)
+    load_made(&mut file[..n], byte(s, 4), cart, memory, out)
 }
 
 // 09.
@@ -102,13 +110,10 @@ fn export(cart: Cartridge, memory: &[u8], out: &mut [u8]) -> Played
 {
     let mut file = file_room();
     let reply = save_data(cart, memory, &mut file);
-    let n = reply.value as usize;
     if reply.refusal != 0 {
         return status(reply, out);
     }
-    if file.len() < n {
-        return no_answer(cart);
-    }
+    let n = at_most(reply.value as usize, &file);
     let len = bytes_of(reply.value);
     let crc = bytes_of(crc32(&file[..n]));
     let answer = [len[1], len[2], len[3], crc[0], crc[1], crc[2], crc[3]];
@@ -131,10 +136,7 @@ fn opened(kind: SaveType, len: usize, cart: Cartridge, memory: &mut [u8], out: &
     if !image_length(len) {
         return played(cart, print_line(out, 1, b""));
     }
-    let n = memory_size(kind);
-    if memory.len() < n {
-        return no_answer(cart);
-    }
+    let n = at_most(memory_size(kind), memory);
     erase(&mut memory[..n]);
     played(fresh_cart(len, kind), print_line(out, 0, b""))
 }
@@ -143,24 +145,22 @@ fn opened(kind: SaveType, len: usize, cart: Cartridge, memory: &mut [u8], out: &
 fn fresh(s: &[u8], cart: Cartridge, memory: &mut [u8], out: &mut [u8]) -> Played
     requires { ⌜ 256 ≤ length (now out) ⌝ }
 {
-    let kind = kind_of(byte(s, 1));
-    let len = number(s, 2) as usize;
     if s.len() != 6 {
         return no_answer(cart);
     }
+    let kind = kind_of(byte(s, 1));
     match kind {
-        Kind::Of(k) => opened(k, len, cart, memory, out),
+        Kind::Of(k) => opened(k, number(s, 2) as usize, cart, memory, out),
         Kind::Nothing => no_answer(cart),
     }
 }
 
-// How many bytes a frame from 08 to 0D has.
+// How many bytes these frames have.
 fn frame_length(number: u8) -> usize {
     match number {
         0x08 => 5,
         0x09 => 1,
         0x0A => 19,
-        0x0B => 6,
         0x0C => 6,
         0x0D => 2,
         _ => 0,
@@ -200,16 +200,13 @@ fn frame_answer(text: &[u8], s: &[u8], cart: Cartridge, memory: &mut [u8], out: 
 pub fn answer(text: &[u8], cart: Cartridge, memory: &mut [u8], out: &mut [u8]) -> Played
     requires { ⌜ 256 ≤ length (now out) ⌝ }
 {
-    let mut bytes = [0u8; 64];
-    let n = decode(&mut bytes, text);
-    let s = &bytes[..n];
+    let mut bytes = line_room();
+    let count = decode(&mut bytes, text);
+    let s = &bytes[..count];
     if byte(s, 0) == 0x0B {
         return fresh(s, cart, memory, out);
     }
     let kind = cart.kind;
-    let size = memory_size(kind);
-    if memory.len() < size {
-        return no_answer(cart);
-    }
-    frame_answer(text, s, cart, &mut memory[..size], out)
+    let n = at_most(memory_size(kind), memory);
+    frame_answer(text, s, cart, &mut memory[..n], out)
 }

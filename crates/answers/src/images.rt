@@ -4,6 +4,8 @@ use crate::digits::bytes_of;
 use crate::digits::number;
 use crate::made::make_image;
 use crate::made::put_text;
+use crate::rooms::at_most;
+use crate::rooms::memory_room;
 use cart::Cartridge;
 use cart::Reply;
 use crc::rom_crc;
@@ -21,20 +23,10 @@ ghost use mathlib.Core.Path.{_≡_};
 ghost use Prim.Native.Nat.{_≤_};
 ghost use lib.ListN.{length};
 
-// Room for the save memory of every kind.
-fn memory_room() -> [u8; 131072]
-    ensures { λ r. ⌜ 131072 ≡ length r ⌝ }
-{
-    [0; 131072]
-}
-
 // A cartridge of the image, whose memory goes when it is opened.
 fn opened(image: &[u8]) -> Reply {
-    let n = memory_size(detect_save_type(image));
     let mut memory = memory_room();
-    if memory.len() < n {
-        return from_bytes(image, &mut memory);
-    }
+    let n = at_most(memory_size(detect_save_type(image)), &memory);
     from_bytes(image, &mut memory[..n])
 }
 
@@ -68,24 +60,34 @@ fn head(image: &[u8], cart: Cartridge, title: u8) -> [u8; 15]
     ]
 }
 
+fn print_front(answer: &[u8], len: usize, out: &mut [u8]) -> usize
+    requires { ⌜ length (now answer) ≤ 126 ⌝ }
+    requires { ⌜ 256 ≤ length (now out) ⌝ }
+{
+    let n = at_most(len, answer);
+    print_line(out, 0, &answer[..n])
+}
+
+// The title goes behind its head; the answer is how long both are.
+fn put_answer(image: &[u8], cart: Cartridge, answer: &mut [u8]) -> usize
+    requires { ⌜ 15 ≤ length (now answer) ⌝ }
+{
+    let title = header_title(image, &mut answer[15..]);
+    let len = title.value % 256;
+    let head = head(image, cart, len as u8);
+    copy(answer, &head);
+    15 + len as usize
+}
+
 fn print_image(image: &[u8], cart: Cartridge, out: &mut [u8]) -> usize
     requires { ⌜ 256 ≤ length (now out) ⌝ }
 {
-    let mut title = [0u8; 36];
-    let t = header_title(image, &mut title);
-    if 36 < t.value {
-        return 0;
-    }
-    let len = t.value as usize;
     let mut answer = [0u8; 51];
-    let head = head(image, cart, len as u8);
-    copy(&mut answer, &head);
-    copy(&mut answer[15..], &title[..len]);
-    let end = 15 + len;
-    print_line(out, 0, &answer[..end])
+    let len = put_answer(image, cart, &mut answer);
+    print_front(&answer, len, out)
 }
 
-fn asked(image: &[u8], out: &mut [u8]) -> usize
+fn ask(image: &[u8], out: &mut [u8]) -> usize
     requires { ⌜ 256 ≤ length (now out) ⌝ }
 {
     let reply = opened(image);
@@ -94,6 +96,14 @@ fn asked(image: &[u8], out: &mut [u8]) -> usize
     }
     let cart = reply.cart;
     print_image(image, cart, out)
+}
+
+fn ask_made(image: &mut [u8], seed: u8, place: usize, text: &[u8], out: &mut [u8]) -> usize
+    requires { ⌜ 256 ≤ length (now out) ⌝ }
+{
+    make_image(image, seed);
+    put_text(image, place, text);
+    ask(image, out)
 }
 
 // 10 image length (8) seed (2) offset (8) text (0 to 66).
@@ -106,13 +116,12 @@ pub fn image_answer(s: &[u8], out: &mut [u8]) -> usize
     let len = number(s, 1) as usize;
     let place = number(s, 6) as usize;
     let mut image = io::buffer();
-    if image.len() < len {
+    let n = at_most(len, &image);
+    if n != len {
         return 0;
     }
     if len < place {
         return 0;
     }
-    make_image(&mut image[..len], byte(s, 5));
-    put_text(&mut image[..len], place, &s[10..]);
-    asked(&image[..len], out)
+    ask_made(&mut image[..n], byte(s, 5), place, &s[10..], out)
 }

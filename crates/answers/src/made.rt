@@ -1,4 +1,5 @@
 // Files and images that a frame gives by length and seed.
+use crate::rooms::at_most;
 use std::num::wrapping_add_u8;
 
 // Byte i is (seed + 7 × i + i / 256) mod 256.
@@ -43,10 +44,6 @@ pub fn put_text(image: &mut [u8], place: usize, text: &[u8]) {
     if image.len() < place {
         return;
     }
-    let left = image.len() - place;
-    if left < text.len() {
-        lists::copy(&mut image[place..], &text[..left]);
-        return;
-    }
-    lists::copy(&mut image[place..], text);
+    let n = at_most(image.len() - place, text);
+    lists::copy(&mut image[place..], &text[..n]);
 }

@@ -6,6 +6,7 @@ mod digits;
 mod images;
 mod kinds;
 mod made;
+mod rooms;
 mod tally;
 
 use bytes::scan::find;
@@ -13,31 +14,19 @@ use calls::answer;
 use cart::Cartridge;
 use cart::fresh_cart;
 use kind::SaveType;
+use rooms::at_most;
+use rooms::line_room;
+use rooms::list_room;
+use rooms::memory_room;
 use tally::Tally;
 use tally::counted;
 use tally::no_lines;
 use tally::print_tally;
-ghost use mathlib.Core.Path.{_≡_};
-ghost use lib.ListN.{length};
 
 // What is carried from line to line.
 struct Replay {
     cart: Cartridge,
     tally: Tally,
-}
-
-// Room for the whole list.
-fn room() -> [u8; 262144]
-    ensures { λ r. ⌜ 262144 ≡ length r ⌝ }
-{
-    [0; 262144]
-}
-
-// Room for the save memory of every kind.
-fn memory() -> [u8; 131072]
-    ensures { λ r. ⌜ 131072 ≡ length r ⌝ }
-{
-    [0; 131072]
 }
 
 // What stands behind a place.
@@ -49,15 +38,12 @@ fn behind(text: &[u8], place: usize) -> &[u8] {
     &text[..0]
 }
 
-// An answer is printed with a line feed; none agrees with nothing.
+// An answer stands in `out` with a line feed. Where there is none, nothing agrees.
 fn agrees(expected: &[u8], out: &[u8], len: usize) -> bool {
     if len == 0 {
         return false;
     }
-    if out.len() < len {
-        return false;
-    }
-    let n = len - 1;
+    let n = at_most(len - 1, out);
     check::same(expected, &out[..n])
 }
 
@@ -70,9 +56,8 @@ fn print_answer(out: &[u8], len: usize) {
         print(b"no answer\n");
         return;
     }
-    if len <= out.len() {
-        print(&out[..len]);
-    }
+    let n = at_most(len, out);
+    print(&out[..n]);
 }
 
 fn print_difference(number: u64, frame: &[u8], expected: &[u8], out: &[u8], len: usize) {
@@ -86,6 +71,7 @@ fn print_difference(number: u64, frame: &[u8], expected: &[u8], out: &[u8], len:
     print_answer(out, len);
 }
 
+// The line, counted, and printed where it differs.
 fn held(tally: Tally, frame: &[u8], expected: &[u8], out: &[u8], len: usize) -> Tally {
     if agrees(expected, out, len) {
         return counted(tally, frame, true, true);
@@ -101,7 +87,7 @@ fn line(text: &[u8], replay: Replay, memory: &mut [u8]) -> Replay {
     let tally = replay.tally;
     let space = find(text, 0, text.len(), 0x20);
     let frame = &text[..space];
-    let mut out = [0u8; 256];
+    let mut out = line_room();
     let p = answer(frame, cart, memory, &mut out);
     let next = p.cart;
     let tally = held(tally, frame, behind(text, space), &out, p.len);
@@ -137,13 +123,13 @@ fn main() {
         os::fail(&path[..n]);
         return;
     }
-    let mut text = room();
+    let mut text = list_room();
     let len = io::read_full(fd, &mut text);
     libc::close(fd);
     if len == text.len() {
         print(b"the list is too long\n");
         return;
     }
-    let mut memory = memory();
+    let mut memory = memory_room();
     print_tally(lines(&text[..len], &mut memory));
 }

@@ -1,0 +1,31 @@
+/* What games do to a cartridge: images with a marker, byte accesses, flash commands, serial commands with 14 address bits. */
+#ifndef GAME_H
+#define GAME_H
+
+#include "cartridge.h"
+
+enum {
+    IMAGE_LENGTH = 1024,
+    WRITE_BITS = 81, /* 1 0, 14 bits of address, 64 of data, the end bit */
+    READ_BITS = 17   /* 1 1, 14 bits of address, the end bit */
+};
+
+/* An image with a sound header and the marker at its very end. */
+void make_image(uint8_t image[IMAGE_LENGTH], const char *title, const char *marker);
+
+uint8_t read_byte(const cartridge *cart, uint32_t address);
+void write_byte(cartridge *cart, uint32_t address, uint8_t value);
+
+void flash_id_mode(cartridge *cart, int on);
+void flash_select_bank(cartridge *cart, uint8_t bank);
+void flash_program(cartridge *cart, uint32_t address, uint8_t value);
+void flash_erase_sector(cartridge *cart, uint32_t address);
+
+/* The bits of a write, to be sent behind a DMA length of WRITE_BITS. */
+void eeprom_write_bits(uint8_t bits[WRITE_BITS], uint32_t block, uint64_t data);
+void eeprom_send(cartridge *cart, const uint8_t *bits, int count);
+
+void eeprom_write_block(cartridge *cart, uint32_t block, uint64_t data);
+uint64_t eeprom_read_block(cartridge *cart, uint32_t block);
+
+#endif

@@ -1,0 +1,205 @@
+/*
+ * A small host: it opens images, plays saves on every chip, takes a state in the middle of an 81-bit write and resumes it
+ * in a fresh cartridge. Every answer is checked; a wrong one ends it with status 1.
+ *
+ *     host           the stories, on images made here
+ *     host IMAGE     what the part says of an image file
+ */
+#include "check.h"
+#include "game.h"
+#include "refusals.h"
+
+#include <inttypes.h>
+#include <stdio.h>
+#include <stdlib.h>
+#include <string.h>
+
+static const char *const KIND_NAMES[] = {"none",           "SRAM",              "flash, 64 KiB",
+                                         "flash, 128 KiB", "EEPROM, 512 bytes", "EEPROM, 8 KiB"};
+
+static void describe(const uint8_t *image, size_t length)
+{
+    uint8_t title[GBASAVE_TITLE_SIZE];
+    uint32_t title_length, check, there, crc, kind, size;
+    accepted("title", gbasave_title(image, length, title, sizeof title, &title_length));
+    accepted("header check", gbasave_header_checksum(image, length, &check));
+    accepted("read", gbasave_read(image, length, 0xBD, &there));
+    accepted("CRC", gbasave_rom_crc(image, length, &crc));
+    accepted("kind", gbasave_detect_save_type(image, length, &kind));
+    accepted("memory", gbasave_memory_size(kind, &size));
+    printf("Image \"%.*s\", %zu bytes, CRC %08" PRIX32 ", header check %02" PRIX32 " %s\n", (int)title_length, (char *)title,
+           length, crc, check, check == there ? "as it says" : "but it says another");
+    printf("  save chip: %s; save memory: %" PRIu32 " bytes\n", KIND_NAMES[kind], size);
+}
+
+static void print_bytes(const char *what, const uint8_t *bytes, size_t count)
+{
+    printf("  %-24s", what);
+    for (size_t i = 0; i < count; i++)
+        printf(" %02X", bytes[i]);
+    printf("\n");
+}
+
+static uint32_t take_flag(cartridge *cart)
+{
+    uint32_t flag;
+    accepted("flag", gbasave_take_save_dirty(&cart->record, &flag));
+    return flag;
+}
+
+static void sram_story(void)
+{
+    uint8_t image[IMAGE_LENGTH];
+    cartridge cart, other;
+    make_image(image, "SRAM STORY", "SRAM_V");
+    describe(image, IMAGE_LENGTH);
+    accepted("opening", cartridge_open(&cart, image, IMAGE_LENGTH));
+
+    expect("nothing stored yet", take_flag(&cart) == 0);
+    for (uint32_t i = 0; i < 4; i++)
+        write_byte(&cart, 0x0E000010 + i, (uint8_t)"SAVE"[i]);
+    for (uint32_t i = 0; i < 4; i++)
+        expect("the bytes are there, also 32 KiB further on",
+               read_byte(&cart, 0x0E000010 + i) == "SAVE"[i] && read_byte(&cart, 0x0E008010 + i) == "SAVE"[i]);
+    print_bytes("stored from 10h on", cart.memory + 0x10, 5);
+    expect("the flag is taken once", take_flag(&cart) == 1 && take_flag(&cart) == 0);
+
+    /* The file goes to another cartridge, with 16 bytes behind it as some programs add them. */
+    saved_state state = take_state(&cart);
+    uint8_t *file = allocate(state.length + 16);
+    uint32_t kept;
+    memcpy(file, state.file, state.length);
+    memset(file + state.length, 0xEE, 16);
+    accepted("opening", cartridge_open(&other, image, IMAGE_LENGTH));
+    accepted("import", gbasave_import_save(&other.record, other.memory, other.length, file, state.length + 16, &kept));
+    printf("  a file of %" PRIu32 " bytes is imported elsewhere, %" PRIu32 " kept\n", state.length + 16, kept);
+    same("the other memory", other.memory, cart.memory, cart.length);
+    free(file);
+    drop_state(&state);
+    cartridge_close(&cart);
+    cartridge_close(&other);
+}
+
+static void flash_story(void)
+{
+    uint8_t image[IMAGE_LENGTH];
+    cartridge cart;
+    make_image(image, "FLASH STORY", "FLASH1M_V");
+    describe(image, IMAGE_LENGTH);
+    accepted("opening", cartridge_open(&cart, image, IMAGE_LENGTH));
+
+    flash_id_mode(&cart, 1);
+    printf("  maker and device         %02X %02X\n", read_byte(&cart, 0x0E000000), read_byte(&cart, 0x0E000001));
+    expect("the chip's numbers", read_byte(&cart, 0x0E000000) == 0x62 && read_byte(&cart, 0x0E000001) == 0x13);
+    flash_id_mode(&cart, 0);
+
+    flash_program(&cart, 0x0E003000, 0x11);
+    flash_select_bank(&cart, 1);
+    flash_program(&cart, 0x0E003000, 0x22);
+    flash_program(&cart, 0x0E004000, 0x33);
+    printf("  programmed               bank 0, 3000h: %02X; bank 1, 3000h: %02X, 4000h: %02X\n", cart.memory[0x3000],
+           read_byte(&cart, 0x0E003000), read_byte(&cart, 0x0E004000));
+    flash_erase_sector(&cart, 0x0E003000);
+    printf("  bank 1, 3000h erased     bank 0, 3000h: %02X; bank 1, 3000h: %02X, 4000h: %02X\n", cart.memory[0x3000],
+           read_byte(&cart, 0x0E003000), read_byte(&cart, 0x0E004000));
+    expect("one sector is erased", read_byte(&cart, 0x0E003000) == 0xFF && read_byte(&cart, 0x0E004000) == 0x33);
+    flash_select_bank(&cart, 0);
+    expect("and none in bank 0", read_byte(&cart, 0x0E003000) == 0x11);
+    cartridge_close(&cart);
+}
+
+static const uint64_t EARLIER = 0x1122334455667788, DATA = 0x0123456789ABCDEF;
+
+enum { UNCUT = WRITE_BITS + 1 };
+
+/* Behind so many bits of the write the game is cut off, and goes on in a fresh cartridge. */
+static saved_state played(const uint8_t *image, int cut, bool shown)
+{
+    cartridge cart;
+    uint8_t bits[WRITE_BITS];
+    int sent = 0;
+    accepted("opening", cartridge_open(&cart, image, IMAGE_LENGTH));
+    eeprom_write_block(&cart, 3, EARLIER);
+    eeprom_write_bits(bits, 100, DATA);
+    accepted("DMA", gbasave_eeprom_begin_dma(&cart.record, WRITE_BITS));
+    if (cut != UNCUT) {
+        eeprom_send(&cart, bits, cut);
+        sent = cut;
+        saved_state state = take_state(&cart);
+        if (shown) {
+            printf("  behind bit %d: a file of %" PRIu32 " bytes and the chip's state\n", cut, state.length);
+            print_bytes("", state.chip, GBASAVE_STATE_SIZE);
+        }
+        cartridge_close(&cart);
+        accepted("resuming", cartridge_resume(&cart, image, IMAGE_LENGTH, &state));
+        drop_state(&state);
+    }
+    eeprom_send(&cart, bits + sent, WRITE_BITS - sent);
+
+    uint64_t earlier = eeprom_read_block(&cart, 3), data = eeprom_read_block(&cart, 100);
+    if (shown)
+        printf("  %-24s block 3: %016" PRIX64 ", block 100: %016" PRIX64 "\n", cut == UNCUT ? "uncut" : "resumed", earlier,
+               data);
+    expect("both blocks read back", earlier == EARLIER && data == DATA);
+    saved_state end = take_state(&cart);
+    cartridge_close(&cart);
+    return end;
+}
+
+static void same_states(const saved_state *a, const saved_state *b)
+{
+    expect("the files are as long", a->length == b->length);
+    same("the files", a->file, b->file, a->length);
+    same("the chips", a->chip, b->chip, GBASAVE_STATE_SIZE);
+}
+
+static void eeprom_story(void)
+{
+    uint8_t image[IMAGE_LENGTH];
+    make_image(image, "EEPROM STORY", "EEPROM_V");
+    describe(image, IMAGE_LENGTH);
+    saved_state uncut = played(image, UNCUT, true);
+    print_bytes("uncut, file from 320h", uncut.file + 0x320, 8);
+    saved_state resumed = played(image, 40, true);
+    print_bytes("resumed, file from 320h", resumed.file + 0x320, 8);
+    same_states(&uncut, &resumed);
+    drop_state(&resumed);
+
+    for (int cut = 0; cut <= WRITE_BITS; cut++) {
+        resumed = played(image, cut, false);
+        same_states(&uncut, &resumed);
+        drop_state(&resumed);
+    }
+    printf("  cut behind the DMA length and behind each of the 81 bits: the same blocks, file and chip\n");
+    drop_state(&uncut);
+}
+
+static void describe_file(const char *path)
+{
+    FILE *file = fopen(path, "rb");
+    expect("the image can be opened", file != NULL);
+    uint8_t *image = allocate(GBASAVE_IMAGE_MAX + 1);
+    size_t length = fread(image, 1, GBASAVE_IMAGE_MAX + 1, file);
+    expect("the image can be read", !ferror(file));
+    fclose(file);
+
+    cartridge cart;
+    accepted("opening", cartridge_open(&cart, image, length));
+    describe(image, length);
+    cartridge_close(&cart);
+    free(image);
+}
+
+int main(int argc, char **argv)
+{
+    if (argc > 1) {
+        describe_file(argv[1]);
+        return 0;
+    }
+    sram_story();
+    flash_story();
+    eeprom_story();
+    refusals();
+    empty_slices();
+    return 0;
+}

@@ -1,0 +1,179 @@
+#include "refusals.h"
+
+#include "check.h"
+#include "game.h"
+
+#include <stdio.h>
+#include <stdlib.h>
+#include <string.h>
+
+#define UNTOUCHED 0xA5A5A5A5u
+
+static void shown(uint32_t number, const char *what, uint32_t answer)
+{
+    expect(what, answer == number);
+    printf("  %2u  %-46s %s\n", (unsigned)answer, what, gbasave_refusal_text(answer));
+}
+
+/* A cartridge beside a copy of it, to see that a refused call changes nothing. */
+typedef struct pair {
+    cartridge cart;
+    cartridge before;
+} pair;
+
+static pair open_pair(const char *title, const char *marker)
+{
+    uint8_t image[IMAGE_LENGTH];
+    pair p;
+    make_image(image, title, marker);
+    accepted("opening", cartridge_open(&p.cart, image, IMAGE_LENGTH));
+    accepted("opening", cartridge_open(&p.before, image, IMAGE_LENGTH));
+    return p;
+}
+
+static void close_pair(pair *p)
+{
+    cartridge_close(&p->cart);
+    cartridge_close(&p->before);
+}
+
+static void refused(pair *p, uint32_t number, const char *what, uint32_t answer)
+{
+    shown(number, what, answer);
+    same(what, p->cart.record.bytes, p->before.record.bytes, GBASAVE_RECORD_SIZE);
+    same(what, p->cart.memory, p->before.memory, p->cart.length);
+}
+
+static void image_refused(void)
+{
+    uint8_t image[GBASAVE_IMAGE_MIN - 1] = {0}, memory[1] = {0x5A};
+    gbasave_record record;
+    const gbasave_record zeros = {{0}};
+    uint32_t kind = UNTOUCHED;
+    memset(&record, 0xEE, sizeof record);
+    shown(GBASAVE_REFUSED_IMAGE_LENGTH, "an image of 191 bytes",
+          gbasave_from_bytes(&record, image, sizeof image, memory, 0));
+    same("a refused opening leaves 24 zeros", record.bytes, zeros.bytes, GBASAVE_RECORD_SIZE);
+    expect("a refused opening leaves the memory", memory[0] == 0x5A);
+    expect("its kind is refused too",
+           gbasave_detect_save_type(image, sizeof image, &kind) == GBASAVE_REFUSED_IMAGE_LENGTH && kind == UNTOUCHED);
+}
+
+static void record_refused(void)
+{
+    gbasave_record record;
+    uint8_t memory[1];
+    uint32_t value = UNTOUCHED;
+    memset(&record, 0xEE, sizeof record);
+    shown(GBASAVE_REFUSED_RECORD, "a byte read with 24 foreign bytes",
+          gbasave_save_read(&record, memory, 0, 0x0E000000, &value));
+    expect("a refused read leaves the place", value == UNTOUCHED);
+}
+
+static void byte_refused(void)
+{
+    pair p = open_pair("SRAM REFUSED", "SRAM_V");
+    cartridge *cart = &p.cart;
+    refused(&p, GBASAVE_REFUSED_MEMORY_LENGTH, "a byte write with a memory of 32,767 bytes",
+            gbasave_save_write(&cart->record, cart->memory, cart->length - 1, 0x0E000000, 1));
+    refused(&p, GBASAVE_REFUSED_NO_EEPROM, "a serial bit to SRAM",
+            gbasave_eeprom_write(&cart->record, cart->memory, cart->length, 1));
+    close_pair(&p);
+}
+
+static void state_refused(pair *p, uint32_t number, const char *what, size_t place, uint8_t value)
+{
+    uint8_t state[GBASAVE_STATE_SIZE];
+    accepted("chip state", gbasave_chip_state(&p->cart.record, state));
+    state[place] = value;
+    refused(p, number, what, gbasave_restore_chip_state(&p->cart.record, state, sizeof state));
+}
+
+static void serial_refused(void)
+{
+    pair p = open_pair("EEPROM REFUS", "EEPROM_V");
+    uint8_t bits[WRITE_BITS], state[GBASAVE_STATE_SIZE];
+    eeprom_write_bits(bits, 100, 0);
+    for (int twice = 0; twice < 2; twice++) {
+        cartridge *cart = twice ? &p.before : &p.cart;
+        accepted("DMA", gbasave_eeprom_begin_dma(&cart->record, WRITE_BITS));
+        eeprom_send(cart, bits, 2 + 6);
+    }
+    refused(&p, GBASAVE_REFUSED_DMA_TOO_LATE, "DMA 73 behind six bits of an address",
+            gbasave_eeprom_begin_dma(&p.cart.record, 73));
+
+    accepted("chip state", gbasave_chip_state(&p.cart.record, state));
+    refused(&p, GBASAVE_REFUSED_STATE_LENGTH, "a state of 17 bytes",
+            gbasave_restore_chip_state(&p.cart.record, state, sizeof state - 1));
+    state_refused(&p, GBASAVE_REFUSED_STATE_PHASE, "a state in phase 7", 5, 7);
+    state_refused(&p, GBASAVE_REFUSED_STATE_FLASH, "a state with flash state 3", 0, 3);
+    state_refused(&p, GBASAVE_REFUSED_STATE_SWITCHES, "a state with bank 2", 1, 2);
+    state_refused(&p, GBASAVE_REFUSED_STATE_WIDTH, "a state with DMA width 7", 3, 7);
+    state_refused(&p, GBASAVE_REFUSED_STATE_RANGES, "a state with read place 68", 9, 68);
+    state_refused(&p, GBASAVE_REFUSED_STATE_COUNT, "a state with 14 bits of a 14-bit address", 6, 14);
+    close_pair(&p);
+}
+
+static void file_refused(void)
+{
+    pair p = open_pair("SRAM REFUSED", "SRAM_V");
+    cartridge *cart = &p.cart;
+    uint8_t *destination = allocate(cart->length);
+    uint32_t length = UNTOUCHED;
+    memset(destination, 0x5A, cart->length);
+    refused(&p, GBASAVE_REFUSED_DESTINATION_LENGTH, "an export to 32,767 bytes",
+            gbasave_save_data(&cart->record, cart->memory, cart->length, destination, cart->length - 1, &length));
+    expect("a refused export leaves destination and place", destination[0] == 0x5A && length == UNTOUCHED);
+    refused(&p, GBASAVE_REFUSED_FILE_LENGTH, "an import of 32,767 bytes",
+            gbasave_import_save(&cart->record, cart->memory, cart->length, destination, cart->length - 1, &length));
+    expect("a refused import leaves the place", length == UNTOUCHED);
+    free(destination);
+    close_pair(&p);
+}
+
+void refusals(void)
+{
+    printf("Refusals; each leaves record, memory, destination and places as they were\n");
+    image_refused();
+    record_refused();
+    byte_refused();
+    serial_refused();
+    file_refused();
+}
+
+/* Without NULL this is promised. With NULL it works today; the part's header does not promise it. */
+static void empty_at(uint8_t *nowhere)
+{
+    uint8_t image[IMAGE_LENGTH];
+    gbasave_record record;
+    uint32_t value;
+    make_image(image, "NO CHIP", "");
+    expect("no image", gbasave_from_bytes(&record, nowhere, 0, nowhere, 0) == GBASAVE_REFUSED_IMAGE_LENGTH);
+    accepted("size of no image", gbasave_save_size(nowhere, 0, &value));
+    expect("no image has no memory", value == 0);
+
+    accepted("opening", gbasave_from_bytes(&record, image, IMAGE_LENGTH, nowhere, 0));
+    expect("no chip", record.bytes[GBASAVE_RECORD_KIND] == GBASAVE_KIND_NONE);
+    accepted("byte write", gbasave_save_write(&record, nowhere, 0, 0x0E000000, 1));
+    accepted("byte read", gbasave_save_read(&record, nowhere, 0, 0x0E000000, &value));
+    expect("no chip reads FFh", value == 0xFF);
+    accepted("bit out", gbasave_eeprom_read(&record, nowhere, 0, &value));
+    expect("no chip gives 1", value == 1);
+    accepted("load of no bytes", gbasave_load_save(&record, nowhere, 0, nowhere, 0));
+    accepted("export", gbasave_save_data(&record, nowhere, 0, nowhere, 0, &value));
+    expect("no file", value == 0);
+    expect("import of no bytes",
+           gbasave_import_save(&record, nowhere, 0, nowhere, 0, &value) == GBASAVE_REFUSED_FILE_LENGTH);
+    expect("state of no bytes", gbasave_restore_chip_state(&record, nowhere, 0) == GBASAVE_REFUSED_STATE_LENGTH);
+    expect("title to no bytes", gbasave_title(image, IMAGE_LENGTH, nowhere, 0, &value) == GBASAVE_REFUSED_DESTINATION_LENGTH);
+}
+
+void empty_slices(void)
+{
+    uint8_t somewhere = 0;
+    printf("Slices of no bytes\n");
+    empty_at(&somewhere);
+    printf("  with a pointer: as the header promises\n");
+    empty_at(NULL);
+    printf("  with NULL: the same today\n");
+}

@@ -1,0 +1,132 @@
+//! A small host: it opens images, plays saves on every chip, takes a state in the middle of an 81-bit write and resumes it in a
+//! fresh cartridge. A wrong answer ends it.
+
+mod game;
+mod refusals;
+
+use game::{image, WRITE_BITS};
+use gbasave::{detect_save_type, header_checksum, read, rom_crc, title, Cartridge, Kind, Refusal, State};
+
+fn name(kind: Kind) -> &'static str {
+    match kind {
+        Kind::None => "none",
+        Kind::Sram => "SRAM",
+        Kind::Flash64 => "flash, 64 KiB",
+        Kind::Flash128 => "flash, 128 KiB",
+        Kind::Eeprom512 => "EEPROM, 512 bytes",
+        Kind::Eeprom8k => "EEPROM, 8 KiB",
+    }
+}
+
+fn describe(image: &[u8]) -> Result<(), Refusal> {
+    let (check, kind) = (header_checksum(image)?, detect_save_type(image)?);
+    let says = if check == read(image, 0xBD)? { "as it says" } else { "but it says another" };
+    let (title, length, crc) = (title(image)?, image.len(), rom_crc(image)?);
+    println!("Image \"{title}\", {length} bytes, CRC {crc:08X}, header check {check:02X} {says}");
+    println!("  save chip: {}; save memory: {} bytes", name(kind), kind.memory_size());
+    Ok(())
+}
+
+fn hex(bytes: &[u8]) -> String {
+    let digits: Vec<String> = bytes.iter().map(|byte| format!("{byte:02X}")).collect();
+    digits.join(" ")
+}
+
+fn sram_story() -> Result<(), Refusal> {
+    let image = image("SRAM STORY", "SRAM_V");
+    describe(&image)?;
+    let mut cart = Cartridge::open(&image)?;
+    assert!(!cart.take_save_dirty());
+    for (address, &byte) in (0x0E00_0010..).zip(b"SAVE") {
+        cart.save_write(address, byte);
+        assert_eq!((cart.save_read(address), cart.save_read(address + 0x8000)), (byte, byte));
+    }
+    println!("  {:24} {}", "stored from 10h on", hex(&cart.memory()[0x10..0x15]));
+    assert!(cart.take_save_dirty() && !cart.take_save_dirty());
+
+    // The file goes to another cartridge, with 16 bytes behind it as some programs add them.
+    let mut file = cart.save_data().expect("SRAM has a file");
+    file.extend([0xEE; 16]);
+    let mut other = Cartridge::open(&image)?;
+    let kept = other.import_save(&file)?;
+    println!("  a file of {} bytes is imported elsewhere, {kept} kept", file.len());
+    assert_eq!(other.memory(), cart.memory());
+    Ok(())
+}
+
+fn flash_story() -> Result<(), Refusal> {
+    let image = image("FLASH STORY", "FLASH1M_V");
+    describe(&image)?;
+    let mut cart = Cartridge::open(&image)?;
+    game::flash_id_mode(&mut cart, true);
+    let id = [cart.save_read(0x0E00_0000), cart.save_read(0x0E00_0001)];
+    game::flash_id_mode(&mut cart, false);
+    println!("  {:24} {}", "maker and device", hex(&id));
+    assert_eq!(id, [0x62, 0x13]);
+
+    game::flash_program(&mut cart, 0x0E00_3000, 0x11);
+    game::flash_select_bank(&mut cart, 1);
+    game::flash_program(&mut cart, 0x0E00_3000, 0x22);
+    game::flash_program(&mut cart, 0x0E00_4000, 0x33);
+    let show = |what, cart: &Cartridge| {
+        let bytes = (cart.memory()[0x3000], cart.save_read(0x0E00_3000), cart.save_read(0x0E00_4000));
+        println!("  {what:24} bank 0, 3000h: {:02X}; bank 1, 3000h: {:02X}, 4000h: {:02X}", bytes.0, bytes.1, bytes.2);
+        bytes
+    };
+    assert_eq!(show("programmed", &cart), (0x11, 0x22, 0x33));
+    game::flash_erase_sector(&mut cart, 0x0E00_3000);
+    assert_eq!(show("bank 1, 3000h erased", &cart), (0x11, 0xFF, 0x33));
+    Ok(())
+}
+
+const EARLIER: u64 = 0x1122_3344_5566_7788;
+const DATA: u64 = 0x0123_4567_89AB_CDEF;
+
+/// Plays two writes. Where there is a cut, behind so many bits of the second the game goes on in a fresh cartridge.
+fn played(image: &[u8], cut: Option<usize>, shown: bool) -> Result<State, Refusal> {
+    let mut cart = Cartridge::open(image)?;
+    game::write_block(&mut cart, 3, EARLIER)?;
+    cart.eeprom_begin_dma(WRITE_BITS as u32)?;
+    let bits = game::write_bits(100, DATA);
+    let (before, after) = bits.split_at(cut.unwrap_or(0));
+    game::send(&mut cart, before)?;
+    if let Some(cut) = cut {
+        let state = cart.state();
+        if shown {
+            let length = state.file.as_ref().map_or(0, Vec::len);
+            println!("  behind bit {cut}: a file of {length} bytes and the chip's state");
+            println!("  {:24} {}", "", hex(&state.chip));
+        }
+        cart = Cartridge::resume(image, &state)?;
+    }
+    game::send(&mut cart, after)?;
+
+    let (earlier, data) = (game::read_block(&mut cart, 3)?, game::read_block(&mut cart, 100)?);
+    let end = cart.state();
+    if shown {
+        let who = if cut.is_some() { "resumed" } else { "uncut" };
+        println!("  {who:24} block 3: {earlier:016X}, block 100: {data:016X}");
+        println!("  {:24} {}", format!("{who}, file from 320h"), hex(&end.file.as_ref().unwrap()[0x320..0x328]));
+    }
+    assert_eq!((earlier, data), (EARLIER, DATA));
+    Ok(end)
+}
+
+fn eeprom_story() -> Result<(), Refusal> {
+    let image = image("EEPROM STORY", "EEPROM_V");
+    describe(&image)?;
+    let uncut = played(&image, None, true)?;
+    assert!(played(&image, Some(40), true)? == uncut);
+    for cut in 0..=WRITE_BITS {
+        assert!(played(&image, Some(cut), false)? == uncut, "cut behind bit {cut}");
+    }
+    println!("  cut behind the DMA length and behind each of the 81 bits: the same blocks, file and chip");
+    Ok(())
+}
+
+fn main() -> Result<(), Refusal> {
+    sram_story()?;
+    flash_story()?;
+    eeprom_story()?;
+    refusals::shown()
+}

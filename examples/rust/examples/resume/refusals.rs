@@ -1,0 +1,43 @@
+//! Every refusal that a cartridge with its own record and memory can meet.
+
+use crate::game::{self, image, WRITE_BITS};
+use gbasave::{Cartridge, Refusal};
+
+fn refused(refusal: Refusal, what: &str, answer: Result<(), Refusal>) {
+    assert_eq!(answer, Err(refusal), "{what}");
+    println!("  {:2}  {what:46} {refusal}", refusal.number());
+}
+
+pub fn shown() -> Result<(), Refusal> {
+    println!("Refusals; each leaves the cartridge as it was");
+    refused(Refusal::ImageLength, "an image of 191 bytes", Cartridge::open(&[0; 191]).map(drop));
+
+    let mut sram = Cartridge::open(&image("SRAM REFUSED", "SRAM_V"))?;
+    let fresh = sram.clone();
+    refused(Refusal::NoEeprom, "a serial bit to SRAM", sram.eeprom_write(1));
+
+    let mut cart = Cartridge::open(&image("EEPROM REFUS", "EEPROM_V"))?;
+    cart.eeprom_begin_dma(WRITE_BITS as u32)?;
+    game::send(&mut cart, &game::write_bits(100, 0)[..2 + 6])?;
+    let before = cart.clone();
+    refused(Refusal::DmaTooLate, "DMA 73 behind six bits of an address", cart.eeprom_begin_dma(73));
+    let state = cart.chip_state();
+    refused(Refusal::StateLength, "a state of 17 bytes", cart.restore_chip_state(&state[..17]));
+    for (refusal, what, place, value) in [
+        (Refusal::StatePhase, "a state in phase 7", 5, 7),
+        (Refusal::StateFlash, "a state with flash state 3", 0, 3),
+        (Refusal::StateSwitches, "a state with bank 2", 1, 2),
+        (Refusal::StateWidth, "a state with DMA width 7", 3, 7),
+        (Refusal::StateRanges, "a state with read place 68", 9, 68),
+        (Refusal::StateCount, "a state with 14 bits of a 14-bit address", 6, 14),
+    ] {
+        let mut other = state;
+        other[place] = value;
+        refused(refusal, what, cart.restore_chip_state(&other));
+    }
+    assert!(cart == before);
+
+    refused(Refusal::FileLength, "an import of 32,767 bytes", sram.import_save(&[0; 32767]).map(drop));
+    assert!(sram == fresh);
+    Ok(())
+}

@@ -1,0 +1,118 @@
+//! A cartridge with its save memory.
+
+use std::fmt;
+
+use crate::answer::{accepted, sound, value};
+use crate::raw::{self, Record, RECORD_KIND, RECORD_SIZE, STATE_SIZE};
+use crate::{save_size, ChipState, Kind, Refusal};
+
+/// A cartridge's backup chip: save memory and record. Both are the cartridge's own, so no call meets the wrong ones.
+#[derive(Clone, PartialEq, Eq)]
+pub struct Cartridge {
+    record: Record,
+    memory: Vec<u8>,
+}
+
+impl Cartridge {
+    /// A fresh cartridge: the kind is found in the image, the memory is erased. Refused: [`Refusal::ImageLength`].
+    pub fn open(image: &[u8]) -> Result<Self, Refusal> {
+        let mut cart = Self { record: [0; RECORD_SIZE], memory: vec![0; save_size(image)] };
+        let (memory, length) = (cart.memory.as_mut_ptr(), cart.memory.len());
+        accepted(unsafe { raw::gbasave_from_bytes(&mut cart.record, image.as_ptr(), image.len(), memory, length) })?;
+        Ok(cart)
+    }
+
+    pub fn kind(&self) -> Kind {
+        Kind::of(self.record[RECORD_KIND].into()).expect("the record has a kind")
+    }
+
+    pub fn memory(&self) -> &[u8] {
+        &self.memory
+    }
+
+    /// The byte that a game reads at a bus address.
+    pub fn save_read(&self, address: u32) -> u8 {
+        let (memory, length) = (self.memory.as_ptr(), self.memory.len());
+        sound(value(|value| unsafe { raw::gbasave_save_read(&self.record, memory, length, address, value) })) as u8
+    }
+
+    /// A game writes a byte at a bus address: SRAM stores it, flash takes it as a step of a command.
+    pub fn save_write(&mut self, address: u32, value: u8) {
+        let (memory, length) = (self.memory.as_mut_ptr(), self.memory.len());
+        sound(accepted(unsafe { raw::gbasave_save_write(&mut self.record, memory, length, address, value) }));
+    }
+
+    /// Whether the game's halfwords in the EEPROM's window are for this cartridge.
+    pub fn uses_eeprom(&self) -> bool {
+        sound(value(|answer| unsafe { raw::gbasave_uses_eeprom(&self.record, answer) })) == 1
+    }
+
+    /// Where on the bus the EEPROM begins.
+    pub fn eeprom_window_start(&self) -> u32 {
+        sound(value(|start| unsafe { raw::gbasave_eeprom_window_start(&self.record, start) }))
+    }
+
+    /// Tells the length of a DMA transfer before its first bit. Refused: [`Refusal::DmaTooLate`].
+    pub fn eeprom_begin_dma(&mut self, words: u32) -> Result<(), Refusal> {
+        accepted(unsafe { raw::gbasave_eeprom_begin_dma(&mut self.record, words) })
+    }
+
+    /// Takes bit 0 of a halfword. Refused: [`Refusal::NoEeprom`].
+    pub fn eeprom_write(&mut self, value: u16) -> Result<(), Refusal> {
+        let (memory, length) = (self.memory.as_mut_ptr(), self.memory.len());
+        accepted(unsafe { raw::gbasave_eeprom_write(&mut self.record, memory, length, value) })
+    }
+
+    /// Gives a bit, as a halfword.
+    pub fn eeprom_read(&mut self) -> u16 {
+        let (memory, length) = (self.memory.as_ptr(), self.memory.len());
+        sound(value(|bit| unsafe { raw::gbasave_eeprom_read(&mut self.record, memory, length, bit) })) as u16
+    }
+
+    /// The save file, where the kind has one.
+    pub fn save_data(&self) -> Option<Vec<u8>> {
+        let mut file = vec![0; self.memory.len()];
+        let (memory, room, to) = (self.memory.as_ptr(), file.len(), file.as_mut_ptr());
+        let length = sound(value(|length| unsafe { raw::gbasave_save_data(&self.record, memory, room, to, room, length) }));
+        file.truncate(length as usize);
+        (length > 0).then_some(file)
+    }
+
+    /// Takes a player's file in and answers how much of it was kept. Refused: [`Refusal::FileLength`].
+    pub fn import_save(&mut self, file: &[u8]) -> Result<usize, Refusal> {
+        let (memory, length) = (self.memory.as_mut_ptr(), self.memory.len());
+        let kept = value(|kept| unsafe {
+            raw::gbasave_import_save(&mut self.record, memory, length, file.as_ptr(), file.len(), kept)
+        })?;
+        Ok(kept as usize)
+    }
+
+    /// Loads a file of any length into an erased memory; what is too long for it falls away.
+    pub fn load_save(&mut self, file: &[u8]) {
+        let (memory, length) = (self.memory.as_mut_ptr(), self.memory.len());
+        sound(accepted(unsafe { raw::gbasave_load_save(&mut self.record, memory, length, file.as_ptr(), file.len()) }));
+    }
+
+    /// Whether anything was stored since this was last asked.
+    pub fn take_save_dirty(&mut self) -> bool {
+        sound(value(|flag| unsafe { raw::gbasave_take_save_dirty(&mut self.record, flag) })) == 1
+    }
+
+    /// The chip record.
+    pub fn chip_state(&self) -> ChipState {
+        let mut state = [0; STATE_SIZE];
+        sound(accepted(unsafe { raw::gbasave_chip_state(&self.record, &mut state) }));
+        state
+    }
+
+    /// Puts a chip record in, also a stranger's. Refused: [`Refusal::StateLength`] to [`Refusal::StateCount`].
+    pub fn restore_chip_state(&mut self, state: &[u8]) -> Result<(), Refusal> {
+        accepted(unsafe { raw::gbasave_restore_chip_state(&mut self.record, state.as_ptr(), state.len()) })
+    }
+}
+
+impl fmt::Debug for Cartridge {
+    fn fmt(&self, to: &mut fmt::Formatter) -> fmt::Result {
+        to.debug_struct("Cartridge").field("kind", &self.kind()).field("record", &self.record).finish_non_exhaustive()
+    }
+}

@@ -1,0 +1,34 @@
+//! The backup chip of a Game Boy Advance cartridge (SRAM, flash, serial EEPROM): a safe wrapper of the calls in `gbasave.h`,
+//! whose comments say in full what each one does.
+//!
+//! A [`Cartridge`] owns its save memory and its record; the image is lent at opening alone. So the refusals that concern
+//! them cannot happen here, and the calls that could have no other do not answer a `Result`.
+//!
+//! ```
+//! use gbasave::{Cartridge, Kind};
+//!
+//! let mut image = vec![0; 1024];
+//! image[512..518].copy_from_slice(b"SRAM_V");
+//! let mut cart = Cartridge::open(&image)?;
+//! assert_eq!(cart.kind(), Kind::Sram);
+//!
+//! cart.save_write(0x0E00_0010, 0x5A);
+//! let state = cart.state();
+//! let resumed = Cartridge::resume(&image, &state)?;
+//! assert_eq!(resumed.save_read(0x0E00_0010), 0x5A);
+//! # Ok::<(), gbasave::Refusal>(())
+//! ```
+
+mod answer;
+mod cartridge;
+mod image;
+mod kind;
+mod raw;
+mod refusal;
+mod state;
+
+pub use cartridge::Cartridge;
+pub use image::{detect_save_type, header_checksum, read, read16, read32, rom_crc, save_fit, save_size, title};
+pub use kind::Kind;
+pub use refusal::Refusal;
+pub use state::{ChipState, State};

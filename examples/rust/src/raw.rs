@@ -1,0 +1,73 @@
+//! The part's calls as the archive has them. Each answers 0 or a refusal's number; a slice is a pointer and a length.
+//!
+//! What callers owe is in `gbasave.h`: no pointer is NULL, slices are as long as said, no two places overlap, and nobody else
+//! writes to them meanwhile. Rust's own borrows meet all of it, also those of empty slices.
+
+pub const RECORD_SIZE: usize = 24;
+pub const STATE_SIZE: usize = 18;
+pub const TITLE_SIZE: usize = 36;
+
+/// Where the record has its kind.
+pub const RECORD_KIND: usize = 4;
+
+pub type Record = [u8; RECORD_SIZE];
+
+#[link(name = "gbasave", kind = "static")]
+extern "C" {
+    pub fn gbasave_detect_save_type(image: *const u8, image_length: usize, kind: &mut u32) -> u32;
+    pub fn gbasave_save_size(image: *const u8, image_length: usize, size: &mut u32) -> u32;
+    pub fn gbasave_save_fit(image: *const u8, image_length: usize, file_length: usize, kept: &mut u32) -> u32;
+    pub fn gbasave_memory_size(kind: u32, size: &mut u32) -> u32;
+    pub fn gbasave_read(image: *const u8, image_length: usize, address: u32, value: &mut u32) -> u32;
+    pub fn gbasave_read16(image: *const u8, image_length: usize, address: u32, value: &mut u32) -> u32;
+    pub fn gbasave_read32(image: *const u8, image_length: usize, address: u32, value: &mut u32) -> u32;
+    pub fn gbasave_header_checksum(image: *const u8, image_length: usize, value: &mut u32) -> u32;
+    pub fn gbasave_title(
+        image: *const u8,
+        image_length: usize,
+        destination: *mut u8,
+        destination_length: usize,
+        length: &mut u32,
+    ) -> u32;
+    pub fn gbasave_rom_crc(image: *const u8, image_length: usize, value: &mut u32) -> u32;
+    pub fn gbasave_from_bytes(
+        record: &mut Record,
+        image: *const u8,
+        image_length: usize,
+        memory: *mut u8,
+        memory_length: usize,
+    ) -> u32;
+    pub fn gbasave_save_read(record: &Record, memory: *const u8, memory_length: usize, address: u32, value: &mut u32) -> u32;
+    pub fn gbasave_save_write(record: &mut Record, memory: *mut u8, memory_length: usize, address: u32, value: u8) -> u32;
+    pub fn gbasave_uses_eeprom(record: &Record, answer: &mut u32) -> u32;
+    pub fn gbasave_eeprom_window_start(record: &Record, start: &mut u32) -> u32;
+    pub fn gbasave_eeprom_begin_dma(record: &mut Record, words: u32) -> u32;
+    pub fn gbasave_eeprom_write(record: &mut Record, memory: *mut u8, memory_length: usize, value: u16) -> u32;
+    pub fn gbasave_eeprom_read(record: &mut Record, memory: *const u8, memory_length: usize, bit: &mut u32) -> u32;
+    pub fn gbasave_save_data(
+        record: &Record,
+        memory: *const u8,
+        memory_length: usize,
+        destination: *mut u8,
+        destination_length: usize,
+        length: &mut u32,
+    ) -> u32;
+    pub fn gbasave_import_save(
+        record: &mut Record,
+        memory: *mut u8,
+        memory_length: usize,
+        file: *const u8,
+        file_length: usize,
+        kept: &mut u32,
+    ) -> u32;
+    pub fn gbasave_load_save(
+        record: &mut Record,
+        memory: *mut u8,
+        memory_length: usize,
+        file: *const u8,
+        file_length: usize,
+    ) -> u32;
+    pub fn gbasave_take_save_dirty(record: &mut Record, flag: &mut u32) -> u32;
+    pub fn gbasave_chip_state(record: &Record, state: &mut [u8; STATE_SIZE]) -> u32;
+    pub fn gbasave_restore_chip_state(record: &mut Record, state: *const u8, state_length: usize) -> u32;
+}

@@ -1,0 +1,111 @@
+//! Refusals.
+
+use std::{error, fmt};
+
+/// Why a call is refused, by the number that it answers. A refused call changes nothing.
+#[derive(Clone, Copy, Debug, PartialEq, Eq, Hash)]
+#[repr(u32)]
+pub enum Refusal {
+    ImageLength = 1,
+    Record,
+    MemoryLength,
+    NoEeprom,
+    DmaTooLate,
+    StateLength,
+    StatePhase,
+    StateFlash,
+    StateSwitches,
+    StateWidth,
+    StateRanges,
+    StateCount,
+    DestinationLength,
+    FileLength,
+}
+
+impl Refusal {
+    /// All of them, in the order of their numbers.
+    pub const ALL: [Self; 14] = [
+        Self::ImageLength,
+        Self::Record,
+        Self::MemoryLength,
+        Self::NoEeprom,
+        Self::DmaTooLate,
+        Self::StateLength,
+        Self::StatePhase,
+        Self::StateFlash,
+        Self::StateSwitches,
+        Self::StateWidth,
+        Self::StateRanges,
+        Self::StateCount,
+        Self::DestinationLength,
+        Self::FileLength,
+    ];
+
+    pub fn number(self) -> u32 {
+        self as u32
+    }
+
+    /// The refusal of a number, 1 to 14.
+    pub fn of(number: u32) -> Option<Self> {
+        Self::ALL.into_iter().find(|refusal| refusal.number() == number)
+    }
+
+    /// The words of `gbasave_refusal_text`.
+    pub fn text(self) -> &'static str {
+        match self {
+            Self::ImageLength => "the image's length is not allowed",
+            Self::Record => "this is no cartridge record",
+            Self::MemoryLength => "the save memory does not have its kind's length",
+            Self::NoEeprom => "the cartridge has no EEPROM",
+            Self::DmaTooLate => "the DMA length comes too late in an address",
+            Self::StateLength => "the chip state is not 18 bytes long",
+            Self::StatePhase => "the chip state's phase is not allowed",
+            Self::StateFlash => "the chip state's flash state is not allowed",
+            Self::StateSwitches => "the chip state's bank, ID mode or large is neither 0 nor 1",
+            Self::StateWidth => "the chip state's DMA width is not allowed",
+            Self::StateRanges => "the chip state's count, block or read place is out of range",
+            Self::StateCount => "the chip state's count is not allowed in its phase",
+            Self::DestinationLength => "the destination is too short",
+            Self::FileLength => "no file of this kind has this length",
+        }
+    }
+}
+
+impl fmt::Display for Refusal {
+    fn fmt(&self, to: &mut fmt::Formatter) -> fmt::Result {
+        to.write_str(self.text())
+    }
+}
+
+impl error::Error for Refusal {}
+
+#[cfg(test)]
+mod tests {
+    use super::Refusal;
+
+    const HEADER: &str = include_str!(env!("GBASAVE_HEADER"));
+
+    /// The header's name of a number, and the words that it has for the name.
+    fn in_header(number: u32) -> (&'static str, &'static str) {
+        let told = format!(" = {number}");
+        let line = |line: &&str| line.trim().starts_with("GBASAVE_REFUSED_") && line.trim_end_matches(',').ends_with(&told);
+        let name = HEADER.lines().find(line).and_then(|line| line.trim().split(' ').next()).unwrap();
+        let (_, rest) = HEADER.split_once(&format!("case {name}: return \"")).unwrap();
+        (name, rest.split_once('"').unwrap().0)
+    }
+
+    #[test]
+    fn numbers_names_and_words_are_the_headers() {
+        for (number, refusal) in (1..).zip(Refusal::ALL) {
+            assert_eq!(refusal.number(), number);
+            assert_eq!(Refusal::of(number), Some(refusal));
+            let (name, text) = in_header(number);
+            assert_eq!(refusal.to_string(), text);
+            assert_eq!(
+                name.trim_start_matches("GBASAVE_REFUSED_").replace('_', "").to_lowercase(),
+                format!("{refusal:?}").to_lowercase()
+            );
+        }
+        assert_eq!((Refusal::of(0), Refusal::of(15)), (None, None));
+    }
+}

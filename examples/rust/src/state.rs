@@ -1,0 +1,31 @@
+//! States: what is kept of a cartridge to go on with it later.
+
+use crate::raw::STATE_SIZE;
+use crate::{Cartridge, Refusal};
+
+/// The chip record.
+pub type ChipState = [u8; STATE_SIZE];
+
+/// All that is needed, beside the image, to resume a cartridge behind any call. The changed flag is not in it.
+#[derive(Clone, Debug, PartialEq, Eq)]
+pub struct State {
+    /// The save file, where the kind has one.
+    pub file: Option<Vec<u8>>,
+    pub chip: ChipState,
+}
+
+impl Cartridge {
+    pub fn state(&self) -> State {
+        State { file: self.save_data(), chip: self.chip_state() }
+    }
+
+    /// A fresh cartridge of the image, with the state put into it.
+    pub fn resume(image: &[u8], state: &State) -> Result<Self, Refusal> {
+        let mut cart = Self::open(image)?;
+        if let Some(file) = &state.file {
+            cart.load_save(file);
+        }
+        cart.restore_chip_state(&state.chip)?;
+        Ok(cart)
+    }
+}

@@ -1,0 +1,32 @@
+//! The wrapper's calls, one after another.
+
+mod bytes;
+mod files;
+#[path = "../../examples/resume/game.rs"]
+mod game;
+mod images;
+mod serial;
+mod states;
+
+use gbasave::Kind;
+
+/// A marker for each kind; `Eeprom8k` takes an image above 16 MiB.
+const MARKERS: [(Kind, &str); 5] = [
+    (Kind::None, ""),
+    (Kind::Sram, "SRAM_V"),
+    (Kind::Flash64, "FLASH_V"),
+    (Kind::Flash128, "FLASH1M_V"),
+    (Kind::Eeprom512, "EEPROM_V"),
+];
+
+/// A small image of each kind but `Eeprom8k`.
+fn images() -> impl Iterator<Item = (Kind, Vec<u8>)> {
+    MARKERS.into_iter().map(|(kind, marker)| (kind, game::image("TEST", marker)))
+}
+
+/// The smallest image of kind `Eeprom8k`.
+fn large_image() -> Vec<u8> {
+    let mut image = game::image("TEST", "EEPROM_V");
+    image.resize(0x100_0001, 0);
+    image
+}
