@@ -43,7 +43,7 @@ play-short TakeFlag s =
     let o = step takeSaveDirty [] s in
     line-short (o .refusal) _ (either (λ (l : List ℕ). length l ≤ 18) (eqb (o .refusal) 0) (omega arith) (omega arith))
 play-short ChipState s = step-short chipState s (omega arith)
-play-short Bad s = line-short 0xff [] (omega arith)
+play-short Bad s = line-short _ [] (omega arith)
 
 begun-short : (f : FirstLine) (s : Session) (m : List ℕ) → length (begun f s m .text) ≤ 39
 unfolding begun
