@@ -41,8 +41,8 @@
  *     destination, not a place for a value and anything else.
  *   - A slice is as long as its length says, and can be written to where it is not const.
  *   - Nobody writes to a lent place while the call runs, or reads one that the call writes to.
- * Only places for values need an alignment, that of uint32_t. All else is checked by the calls: any bytes in any place,
- * any length, any number.
+ * Only places for values need an alignment, that of uint32_t. All else the calls look after: any bytes in any
+ * place, any length, any number.
  *
  * THREADS. Calls share nothing. Any number of threads may call at once, each on a record and a memory of its own; an
  * image may be lent to all of them.
@@ -152,22 +152,22 @@ typedef struct gbasave_record {
 #define GBASAVE_RECORD_CHIP 6
 
 /*
- * In the comments below: "Asks" has the questions in their order, each with the number that a no answers. "Lent" has the
- * places that are lent; for all of them, of every call: none NULL, no two overlapping.
+ * In the comments below, "Asks" has the questions in their order, each with the number that a no answers; "Lent" has the
+ * places that the caller lends.
  */
 
 /* ---- The image ----------------------------------------------------------------------------------------------------- */
 
 /*
- * The kind of an image. The game code at ACh decides: GBXP, GBXJ, GBXE are SRAM, GB4P, GB4J, GB4E FLASH128. Else the
- * first of these markers that stands anywhere in the image: SRAM_V, SRAM; FLASH_V or FLASH512_V, FLASH64; FLASH1M_V,
- * FLASH128; EEPROM_V, EEPROM8K above 16,777,216 bytes and EEPROM512 otherwise. Else the title POKEMON RUBY, FLASH128. Else
- * NONE.
+ * The kind of an image. The game code at ACh decides: GBXP, GBXJ, GBXE are SRAM, GB4P, GB4J, GB4E FLASH128. Else these
+ * markers are tried in this order, and the first that stands anywhere in the image decides: SRAM_V, SRAM; FLASH_V or
+ * FLASH512_V, FLASH64; FLASH1M_V, FLASH128; EEPROM_V, EEPROM8K above 16,777,216 bytes and EEPROM512 otherwise. Else the
+ * title POKEMON RUBY is FLASH128. Else it is NONE.
  *   Asks     1: is the image 192 to 33,554,432 bytes long?
  *   Gives    *kind, 0 to 5.
  *   Changes  nothing else.
  *   Refused  *kind stays.
- *   Lent     image to read, kind to write.
+ *   Lent     image to read, kind to write; none NULL, no two overlapping.
  */
 uint32_t gbasave_detect_save_type(const uint8_t *image, size_t image_length, uint32_t *kind);
 
@@ -177,7 +177,7 @@ uint32_t gbasave_detect_save_type(const uint8_t *image, size_t image_length, uin
  *   Asks     nothing, and answers 0: an image below 192 bytes has 0, one above 33,554,432 is as any other.
  *   Gives    *size.
  *   Changes  nothing else.
- *   Lent     image to read, size to write.
+ *   Lent     image to read, size to write; none NULL, no two overlapping.
  */
 uint32_t gbasave_save_size(const uint8_t *image, size_t image_length, uint32_t *size);
 
@@ -187,7 +187,7 @@ uint32_t gbasave_save_size(const uint8_t *image, size_t image_length, uint32_t *
  *   Asks     nothing, and answers 0: an image below 192 bytes takes no file, one above 33,554,432 is as any other.
  *   Gives    *kept: the bytes kept, or 0 where this can be no file of the image.
  *   Changes  nothing else.
- *   Lent     image to read, kept to write.
+ *   Lent     image to read, kept to write; none NULL, no two overlapping.
  */
 uint32_t gbasave_save_fit(const uint8_t *image, size_t image_length, size_t file_length, uint32_t *kept);
 
@@ -197,7 +197,7 @@ uint32_t gbasave_save_fit(const uint8_t *image, size_t image_length, size_t file
  *   Gives    *size.
  *   Changes  nothing else.
  *   Refused  *size stays.
- *   Lent     size to write.
+ *   Lent     size to write; not NULL.
  */
 uint32_t gbasave_memory_size(uint32_t kind, uint32_t *size);
 
@@ -208,7 +208,7 @@ uint32_t gbasave_memory_size(uint32_t kind, uint32_t *size);
  *   Gives    *value.
  *   Changes  nothing else.
  *   Refused  *value stays.
- *   Lent     image to read, value to write.
+ *   Lent     image to read, value to write; none NULL, no two overlapping.
  */
 uint32_t gbasave_read(const uint8_t *image, size_t image_length, uint32_t address, uint32_t *value);
 uint32_t gbasave_read16(const uint8_t *image, size_t image_length, uint32_t address, uint32_t *value);
@@ -221,7 +221,7 @@ uint32_t gbasave_read32(const uint8_t *image, size_t image_length, uint32_t addr
  *   Gives    *value, 0 to 255.
  *   Changes  nothing else.
  *   Refused  *value stays.
- *   Lent     image to read, value to write.
+ *   Lent     image to read, value to write; none NULL, no two overlapping.
  */
 uint32_t gbasave_header_checksum(const uint8_t *image, size_t image_length, uint32_t *value);
 
@@ -233,7 +233,7 @@ uint32_t gbasave_header_checksum(const uint8_t *image, size_t image_length, uint
  *   Gives    *length, 0 to 36, and the title in the destination's first bytes.
  *   Changes  nothing else; the destination's bytes past the title stay.
  *   Refused  destination and *length stay.
- *   Lent     image to read, destination and length to write.
+ *   Lent     image to read, destination and length to write; none NULL, no two overlapping.
  */
 uint32_t gbasave_title(const uint8_t *image, size_t image_length, uint8_t *destination, size_t destination_length,
                        uint32_t *length);
@@ -244,7 +244,7 @@ uint32_t gbasave_title(const uint8_t *image, size_t image_length, uint8_t *desti
  *   Gives    *value.
  *   Changes  nothing else.
  *   Refused  *value stays.
- *   Lent     image to read, value to write.
+ *   Lent     image to read, value to write; none NULL, no two overlapping.
  */
 uint32_t gbasave_rom_crc(const uint8_t *image, size_t image_length, uint32_t *value);
 
@@ -258,7 +258,7 @@ uint32_t gbasave_rom_crc(const uint8_t *image, size_t image_length, uint32_t *va
  *   Changes  record, whatever it was: image length and kind, flag 0, chip record 0 but for large, which is 1 for EEPROM8K.
  *            memory: every byte FFh.
  *   Refused  memory stays; record becomes 24 zeros, which are no record.
- *   Lent     image to read, record and memory to write.
+ *   Lent     image to read, record and memory to write; none NULL, no two overlapping.
  */
 uint32_t gbasave_from_bytes(gbasave_record *record, const uint8_t *image, size_t image_length, uint8_t *memory,
                             size_t memory_length);
@@ -267,14 +267,14 @@ uint32_t gbasave_from_bytes(gbasave_record *record, const uint8_t *image, size_t
 
 /*
  * The byte at an address. Any address will do, also as it stands on the bus (0E000000h and up): SRAM takes it modulo
- * 32,768, flash modulo 65,536 in the selected bank, EEPROM kinds modulo 8,192. No chip: FFh. Flash in ID mode: the maker
- * at even addresses, the device at odd ones, 32h and 1Bh for FLASH64, 62h and 13h for FLASH128.
+ * 32,768, flash modulo 65,536 in the selected bank (FLASH64 has one), EEPROM kinds modulo 8,192. No chip: FFh. Flash in
+ * ID mode: the maker at even addresses, the device at odd ones, 32h and 1Bh for FLASH64, 62h and 13h for FLASH128.
  *   Asks     2: is this a record?
  *            3: has the memory its kind's length?
  *   Gives    *value, 0 to 255.
  *   Changes  nothing else.
  *   Refused  *value stays.
- *   Lent     record and memory to read, value to write.
+ *   Lent     record and memory to read, value to write; none NULL, no two overlapping.
  */
 uint32_t gbasave_save_read(const gbasave_record *record, const uint8_t *memory, size_t memory_length, uint32_t address,
                            uint32_t *value);
@@ -287,7 +287,7 @@ uint32_t gbasave_save_read(const gbasave_record *record, const uint8_t *memory, 
  *            3: has the memory its kind's length?
  *   Changes  record (flag; flash state, bank and ID mode) and memory, as said.
  *   Refused  all stays.
- *   Lent     record and memory to write.
+ *   Lent     record and memory to write; none NULL, no two overlapping.
  */
 uint32_t gbasave_save_write(gbasave_record *record, uint8_t *memory, size_t memory_length, uint32_t address, uint8_t value);
 
@@ -299,7 +299,7 @@ uint32_t gbasave_save_write(gbasave_record *record, uint8_t *memory, size_t memo
  *   Gives    *answer, 0 or 1.
  *   Changes  nothing else.
  *   Refused  *answer stays.
- *   Lent     record to read, answer to write.
+ *   Lent     record to read, answer to write; none NULL, no two overlapping.
  */
 uint32_t gbasave_uses_eeprom(const gbasave_record *record, uint32_t *answer);
 
@@ -309,7 +309,7 @@ uint32_t gbasave_uses_eeprom(const gbasave_record *record, uint32_t *answer);
  *   Gives    *start, also where the kind has no EEPROM.
  *   Changes  nothing else.
  *   Refused  *start stays.
- *   Lent     record to read, start to write.
+ *   Lent     record to read, start to write; none NULL, no two overlapping.
  */
 uint32_t gbasave_eeprom_window_start(const gbasave_record *record, uint32_t *start);
 
@@ -320,7 +320,7 @@ uint32_t gbasave_eeprom_window_start(const gbasave_record *record, uint32_t *sta
  *            5, of 9 and 73 alone: are fewer than 6 bits of an address in, or is none under way?
  *   Changes  record: DMA width, large.
  *   Refused  all stays.
- *   Lent     record to write.
+ *   Lent     record to write; not NULL.
  */
 uint32_t gbasave_eeprom_begin_dma(gbasave_record *record, uint32_t words);
 
@@ -334,7 +334,7 @@ uint32_t gbasave_eeprom_begin_dma(gbasave_record *record, uint32_t words);
  *            4: has the kind an EEPROM?
  *   Changes  record (flag, chip record) and, with the last bit of data, eight bytes of memory.
  *   Refused  all stays.
- *   Lent     record and memory to write.
+ *   Lent     record and memory to write; none NULL, no two overlapping.
  */
 uint32_t gbasave_eeprom_write(gbasave_record *record, uint8_t *memory, size_t memory_length, uint16_t value);
 
@@ -346,7 +346,7 @@ uint32_t gbasave_eeprom_write(gbasave_record *record, uint8_t *memory, size_t me
  *   Gives    *bit, 0 or 1.
  *   Changes  record (chip record) where a read is under way, else nothing.
  *   Refused  record and *bit stay.
- *   Lent     memory to read, record and bit to write.
+ *   Lent     memory to read, record and bit to write; none NULL, no two overlapping.
  */
 uint32_t gbasave_eeprom_read(gbasave_record *record, const uint8_t *memory, size_t memory_length, uint32_t *bit);
 
@@ -360,7 +360,7 @@ uint32_t gbasave_eeprom_read(gbasave_record *record, const uint8_t *memory, size
  *   Gives    *length, and the file in the destination's first bytes. Kind NONE has no file: *length is 0.
  *   Changes  nothing else; the destination's bytes past the file stay. The flag stays too.
  *   Refused  destination and *length stay.
- *   Lent     record and memory to read, destination and length to write.
+ *   Lent     record and memory to read, destination and length to write; none NULL, no two overlapping.
  */
 uint32_t gbasave_save_data(const gbasave_record *record, const uint8_t *memory, size_t memory_length, uint8_t *destination,
                            size_t destination_length, uint32_t *length);
@@ -374,7 +374,7 @@ uint32_t gbasave_save_data(const gbasave_record *record, const uint8_t *memory, 
  *   Gives    *kept: how many of the file's bytes were loaded.
  *   Changes  memory; record (large). The flag stays.
  *   Refused  all stays.
- *   Lent     file to read; record, memory and kept to write.
+ *   Lent     file to read; record, memory and kept to write; none NULL, no two overlapping.
  */
 uint32_t gbasave_import_save(gbasave_record *record, uint8_t *memory, size_t memory_length, const uint8_t *file,
                              size_t file_length, uint32_t *kept);
@@ -386,7 +386,7 @@ uint32_t gbasave_import_save(gbasave_record *record, uint8_t *memory, size_t mem
  *            3: has the memory its kind's length?
  *   Changes  memory; record (large). The flag stays.
  *   Refused  all stays.
- *   Lent     file to read, record and memory to write.
+ *   Lent     file to read, record and memory to write; none NULL, no two overlapping.
  */
 uint32_t gbasave_load_save(gbasave_record *record, uint8_t *memory, size_t memory_length, const uint8_t *file,
                            size_t file_length);
@@ -397,7 +397,7 @@ uint32_t gbasave_load_save(gbasave_record *record, uint8_t *memory, size_t memor
  *   Gives    *flag, 0 or 1.
  *   Changes  record: flag 0.
  *   Refused  record and *flag stay.
- *   Lent     record and flag to write.
+ *   Lent     record and flag to write; none NULL, no two overlapping.
  */
 uint32_t gbasave_take_save_dirty(gbasave_record *record, uint32_t *flag);
 
@@ -418,7 +418,7 @@ uint32_t gbasave_take_save_dirty(gbasave_record *record, uint32_t *flag);
  *   Gives    the 18 bytes at state.
  *   Changes  nothing else.
  *   Refused  state stays.
- *   Lent     record to read, 18 bytes at state to write.
+ *   Lent     record to read, 18 bytes at state to write; none NULL, no two overlapping.
  */
 uint32_t gbasave_chip_state(const gbasave_record *record, uint8_t state[GBASAVE_STATE_SIZE]);
 
@@ -434,7 +434,7 @@ uint32_t gbasave_chip_state(const gbasave_record *record, uint8_t state[GBASAVE_
  *            12: is the count allowed in its phase?
  *   Changes  record: the chip record alone; image length, kind and flag stay.
  *   Refused  all stays.
- *   Lent     state to read, record to write.
+ *   Lent     state to read, record to write; none NULL, no two overlapping.
  */
 uint32_t gbasave_restore_chip_state(gbasave_record *record, const uint8_t *state, size_t state_length);
 

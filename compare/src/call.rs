@@ -20,14 +20,18 @@ pub enum Call {
 }
 
 impl Call {
-    /// Outside the domain in which the original's answer counts: a bit for a chip that is not there, and a DMA length that
-    /// the count has overtaken.
-    pub fn outside(&self, kind: Kind, chip: &Chip) -> bool {
+    /// The refusal of a call outside the domain in which the original's answer counts: a bit for a chip that is not there, and
+    /// a DMA length that the count has overtaken.
+    pub fn refusal(&self, kind: Kind, chip: &Chip) -> Option<u8> {
         match self {
-            Call::BitIn(_) => !is_eeprom(kind),
-            Call::Dma(9 | 73) => matches!(chip[5], 1 | 2) && chip[6] >= 6,
-            _ => false,
+            Call::BitIn(_) if !is_eeprom(kind) => Some(4),
+            Call::Dma(9 | 73) if matches!(chip[5], 1 | 2) && chip[6] >= 6 => Some(5),
+            _ => None,
         }
+    }
+
+    pub fn outside(&self, kind: Kind, chip: &Chip) -> bool {
+        self.refusal(kind, chip).is_some()
     }
 
     /// The file that the call brings.
@@ -52,6 +56,20 @@ impl Call {
             Call::ChipState | Call::Export => {}
         }
         Ok(None)
+    }
+
+    /// The original's answer in the list of answers.
+    pub fn answer(&self, cart: &mut Cartridge) -> String {
+        match (self, self.put(cart, &self.file())) {
+            (Call::ChipState, _) => format!("00{}", hex(&original::chip_state(cart))),
+            (Call::Export, _) => match original::save_data(cart) {
+                Some(file) => format!("00{:06X}{:08X}", file.len(), original::crc32(&file)),
+                None => "0000000000000000".into(),
+            },
+            (_, Ok(Some(value))) => format!("00{value:02X}"),
+            (_, Ok(None)) => "00".into(),
+            (_, Err(refusal)) => format!("{refusal:02X}"),
+        }
     }
 
     /// The call's frame in the list of answers.

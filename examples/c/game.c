@@ -4,15 +4,18 @@
 
 #include <string.h>
 
-void make_image(uint8_t image[IMAGE_LENGTH], const char *title, const char *marker)
+uint8_t *make_image(const char *title, const char *marker)
 {
+    uint8_t *image = allocate(IMAGE_LENGTH);
     uint32_t check;
     memset(image, 0, IMAGE_LENGTH);
     memcpy(image + 0xA0, title, strlen(title));
     image[0xB2] = 0x96;
+    image[0xBC] = 1; /* version */
     accepted("header check", gbasave_header_checksum(image, IMAGE_LENGTH, &check));
     image[0xBD] = (uint8_t)check;
     memcpy(image + IMAGE_LENGTH - strlen(marker), marker, strlen(marker));
+    return image;
 }
 
 uint8_t read_byte(const cartridge *cart, uint32_t address)

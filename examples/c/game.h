@@ -10,8 +10,8 @@ enum {
     READ_BITS = 17   /* 1 1, 14 bits of address, the end bit */
 };
 
-/* An image with a sound header and the marker at its very end. */
-void make_image(uint8_t image[IMAGE_LENGTH], const char *title, const char *marker);
+/* An image with a sound header and the marker at its very end, to be freed. */
+uint8_t *make_image(const char *title, const char *marker);
 
 uint8_t read_byte(const cartridge *cart, uint32_t address);
 void write_byte(cartridge *cart, uint32_t address, uint8_t value);

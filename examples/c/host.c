@@ -20,10 +20,12 @@ static const char *const KIND_NAMES[] = {"none",           "SRAM",              
 static void describe(const uint8_t *image, size_t length)
 {
     uint8_t title[GBASAVE_TITLE_SIZE];
-    uint32_t title_length, check, there, crc, kind, size;
+    uint32_t title_length, check, there, last, crc, kind, size;
     accepted("title", gbasave_title(image, length, title, sizeof title, &title_length));
     accepted("header check", gbasave_header_checksum(image, length, &check));
     accepted("read", gbasave_read(image, length, 0xBD, &there));
+    accepted("read", gbasave_read32(image, length, (uint32_t)length - 1, &last));
+    expect("past the image's last byte are zeros", last == image[length - 1]);
     accepted("CRC", gbasave_rom_crc(image, length, &crc));
     accepted("kind", gbasave_detect_save_type(image, length, &kind));
     accepted("memory", gbasave_memory_size(kind, &size));
@@ -49,9 +51,8 @@ static uint32_t take_flag(cartridge *cart)
 
 static void sram_story(void)
 {
-    uint8_t image[IMAGE_LENGTH];
+    uint8_t *image = make_image("SRAM STORY", "SRAM_V");
     cartridge cart, other;
-    make_image(image, "SRAM STORY", "SRAM_V");
     describe(image, IMAGE_LENGTH);
     accepted("opening", cartridge_open(&cart, image, IMAGE_LENGTH));
 
@@ -78,13 +79,13 @@ static void sram_story(void)
     drop_state(&state);
     cartridge_close(&cart);
     cartridge_close(&other);
+    free(image);
 }
 
 static void flash_story(void)
 {
-    uint8_t image[IMAGE_LENGTH];
+    uint8_t *image = make_image("FLASH STORY", "FLASH1M_V");
     cartridge cart;
-    make_image(image, "FLASH STORY", "FLASH1M_V");
     describe(image, IMAGE_LENGTH);
     accepted("opening", cartridge_open(&cart, image, IMAGE_LENGTH));
 
@@ -106,9 +107,11 @@ static void flash_story(void)
     flash_select_bank(&cart, 0);
     expect("and none in bank 0", read_byte(&cart, 0x0E003000) == 0x11);
     cartridge_close(&cart);
+    free(image);
 }
 
 static const uint64_t EARLIER = 0x1122334455667788, DATA = 0x0123456789ABCDEF;
+static const uint8_t DATA_BYTES[] = {0x01, 0x23, 0x45, 0x67, 0x89, 0xAB, 0xCD, 0xEF};
 
 enum { UNCUT = WRITE_BITS + 1 };
 
@@ -155,11 +158,11 @@ static void same_states(const saved_state *a, const saved_state *b)
 
 static void eeprom_story(void)
 {
-    uint8_t image[IMAGE_LENGTH];
-    make_image(image, "EEPROM STORY", "EEPROM_V");
+    uint8_t *image = make_image("EEPROM STORY", "EEPROM_V");
     describe(image, IMAGE_LENGTH);
     saved_state uncut = played(image, UNCUT, true);
     print_bytes("uncut, file from 320h", uncut.file + 0x320, 8);
+    same("block 100 of the file", uncut.file + 8 * 100, DATA_BYTES, 8);
     saved_state resumed = played(image, 40, true);
     print_bytes("resumed, file from 320h", resumed.file + 0x320, 8);
     same_states(&uncut, &resumed);
@@ -172,6 +175,7 @@ static void eeprom_story(void)
     }
     printf("  cut behind the DMA length and behind each of the 81 bits: the same blocks, file and chip\n");
     drop_state(&uncut);
+    free(image);
 }
 
 static void describe_file(const char *path)

@@ -23,11 +23,11 @@ typedef struct pair {
 
 static pair open_pair(const char *title, const char *marker)
 {
-    uint8_t image[IMAGE_LENGTH];
+    uint8_t *image = make_image(title, marker);
     pair p;
-    make_image(image, title, marker);
     accepted("opening", cartridge_open(&p.cart, image, IMAGE_LENGTH));
     accepted("opening", cartridge_open(&p.before, image, IMAGE_LENGTH));
+    free(image);
     return p;
 }
 
@@ -144,10 +144,9 @@ void refusals(void)
 /* Without NULL this is promised. With NULL it works today; the part's header does not promise it. */
 static void empty_at(uint8_t *nowhere)
 {
-    uint8_t image[IMAGE_LENGTH];
+    uint8_t *image = make_image("NO CHIP", "");
     gbasave_record record;
     uint32_t value;
-    make_image(image, "NO CHIP", "");
     expect("no image", gbasave_from_bytes(&record, nowhere, 0, nowhere, 0) == GBASAVE_REFUSED_IMAGE_LENGTH);
     accepted("size of no image", gbasave_save_size(nowhere, 0, &value));
     expect("no image has no memory", value == 0);
@@ -166,6 +165,7 @@ static void empty_at(uint8_t *nowhere)
            gbasave_import_save(&record, nowhere, 0, nowhere, 0, &value) == GBASAVE_REFUSED_FILE_LENGTH);
     expect("state of no bytes", gbasave_restore_chip_state(&record, nowhere, 0) == GBASAVE_REFUSED_STATE_LENGTH);
     expect("title to no bytes", gbasave_title(image, IMAGE_LENGTH, nowhere, 0, &value) == GBASAVE_REFUSED_DESTINATION_LENGTH);
+    free(image);
 }
 
 void empty_slices(void)

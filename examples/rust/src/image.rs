@@ -43,13 +43,18 @@ pub fn detect_save_type(image: &[u8]) -> Result<Kind, Refusal> {
     Ok(Kind::of(kind).expect("a kind's number"))
 }
 
+/// Of a call that asks nothing, and so cannot be refused.
+fn unasked(call: impl FnOnce(&mut u32) -> u32) -> usize {
+    value(call).expect("no question is asked") as usize
+}
+
 /// How much import keeps of a save file of the given length, if it can be this image's.
 pub fn save_fit(image: &[u8], length: usize) -> Option<usize> {
-    let kept = value(|kept| unsafe { raw::gbasave_save_fit(image.as_ptr(), image.len(), length, kept) });
-    kept.ok().filter(|&kept| kept > 0).map(|kept| kept as usize)
+    let kept = unasked(|kept| unsafe { raw::gbasave_save_fit(image.as_ptr(), image.len(), length, kept) });
+    (kept > 0).then_some(kept)
 }
 
 /// The largest save file of the image, which is the size of its save memory; 0 where it has none.
 pub fn save_size(image: &[u8]) -> usize {
-    value(|size| unsafe { raw::gbasave_save_size(image.as_ptr(), image.len(), size) }).unwrap_or(0) as usize
+    unasked(|size| unsafe { raw::gbasave_save_size(image.as_ptr(), image.len(), size) })
 }

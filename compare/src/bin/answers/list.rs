@@ -4,7 +4,6 @@ use compare::call::Call;
 use compare::images;
 use compare::kind::Kind;
 use compare::original::{self, Cartridge};
-use compare::records::hex;
 
 pub struct List {
     kind: Kind,
@@ -30,27 +29,12 @@ impl List {
     pub fn put(&mut self, calls: impl IntoIterator<Item = Call>) {
         for call in calls {
             if !call.outside(self.kind, &original::chip_state(&self.cart)) {
-                let answer = answer(&mut self.cart, &call);
-                self.lines += &format!("{} {answer}\n", call.frame());
+                self.lines += &format!("{} {}\n", call.frame(), call.answer(&mut self.cart));
             }
         }
     }
 
     pub fn into_lines(self) -> String {
         self.lines
-    }
-}
-
-fn answer(cart: &mut Cartridge, call: &Call) -> String {
-    let answer = call.put(cart, &call.file());
-    match (call, answer) {
-        (Call::ChipState, _) => format!("00{}", hex(&original::chip_state(cart))),
-        (Call::Export, _) => match original::save_data(cart) {
-            Some(file) => format!("00{:06X}{:08X}", file.len(), original::crc32(&file)),
-            None => "0000000000000000".into(),
-        },
-        (_, Ok(Some(value))) => format!("00{value:02X}"),
-        (_, Ok(None)) => "00".into(),
-        (_, Err(refusal)) => format!("{refusal:02X}"),
     }
 }

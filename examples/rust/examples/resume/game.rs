@@ -12,6 +12,7 @@ pub fn image(title: &str, marker: &str) -> Vec<u8> {
     let mut image = vec![0; 1024];
     image[0xA0..0xA0 + title.len()].copy_from_slice(title.as_bytes());
     image[0xB2] = 0x96;
+    image[0xBC] = 1; // version
     image[0xBD] = header_checksum(&image).expect("the image is long enough");
     let place = image.len() - marker.len();
     image[place..].copy_from_slice(marker.as_bytes());

@@ -38,3 +38,14 @@ fn a_dma_length_can_come_too_late() {
         assert_eq!(answer.is_err() || words == 17, cart == before);
     }
 }
+
+#[test]
+fn a_dma_length_tells_the_width_and_makes_no_chip_small() {
+    let mut cart = Cartridge::open(&game::image("TEST", "EEPROM_V")).unwrap();
+    for (words, told) in
+        [(68, [0, 0]), (9, [6, 0]), (73, [6, 0]), (17, [14, 1]), (9, [6, 1]), (81, [14, 1]), (73, [6, 1]), (68, [6, 1])]
+    {
+        cart.eeprom_begin_dma(words).unwrap();
+        assert_eq!(cart.chip_state()[3..5], told);
+    }
+}
