@@ -173,6 +173,9 @@ pub record-read : (r : List ℕ) (n : ℕ) (k : SaveType) (chip : ChipRecord) �
     → n ≡ getD r 0 0 + 256 * (getD r 1 0 + 256 * (getD r 2 0 + 256 * getD r 3 0))
     → k ≡ kindOf (getD r 4 0)
     → chip ≡ chipOf (take (length r - 6) (drop 6 r))
-    → let c : Cartridge = record { len = n; kind = k; dirty = eqb (getD r 5 0) 1; chip = chip } in (c ≡ cartOf r) × (recordBytes c ≡ r)
+    → let c : Cartridge = record { len = n; kind = k; dirty = eqb (getD r 5 0) 1; chip = chip } in
+    (c ≡ cartOf r) × (recordAllowed c ≡ true) × (recordBytes c ≡ r)
 record-read r n k chip b h e f g =
-    let q = fields r n k chip e f g in (q, ap recordBytes q ∙ read r (are-bytes r b) h .1)
+    let q = fields r n k chip e f g in
+    let y = read r (are-bytes r b) h in
+    (q, ap recordAllowed q ∙ y .0, ap recordBytes q ∙ y .1)

@@ -14,6 +14,7 @@ ghost use mathlib.Core.Path.{_≡_};
 ghost use mathlib.Core.Bool.{true};
 ghost use lib.ListN.{length, take};
 ghost use Rattle.lists.specs.Lists.{lowValue};
+ghost use Rattle.cart.specs.Record.{recordAllowed};
 ghost use Rattle.abi_record.specs.RecordBytes.{recordBytes, kindOf, cartOf, isRecord};
 ghost use Rattle.abi_record.specs.Places.{leftBy, told};
 
@@ -54,10 +55,10 @@ pub fn is_record(r: &[u8; 24]) -> bool
     state_questions(&bytes[6..]) == 0
 }
 
-// What 24 bytes say that are a record; written again, they are the same.
+// What 24 bytes say that are a record: an allowed one, and, written again, the same bytes.
 fn cart_in(bytes: &[u8]) -> Cartridge
     requires { ⌜ (length (now bytes) ≡ 24) × (isRecord (now bytes) ≡ true) ⌝ }
-    ensures { λ c. ⌜ (c ≡ cartOf (now (bytes .entry))) × (recordBytes c ≡ now (bytes .entry)) ⌝ }
+    ensures { λ c. ⌜ (c ≡ cartOf (now (bytes .entry))) × (recordAllowed c ≡ true) × (recordBytes c ≡ now (bytes .entry)) ⌝ }
 {
     Cartridge {
         len: low32(bytes[0], bytes[1], bytes[2], bytes[3]) as usize,
@@ -69,7 +70,7 @@ fn cart_in(bytes: &[u8]) -> Cartridge
 
 pub fn cart_of(r: &[u8; 24]) -> Cartridge
     requires { ⌜ isRecord (now r) ≡ true ⌝ }
-    ensures { λ c. ⌜ (c ≡ cartOf (now (r .entry))) × (recordBytes c ≡ now (r .entry)) ⌝ }
+    ensures { λ c. ⌜ (c ≡ cartOf (now (r .entry))) × (recordAllowed c ≡ true) × (recordBytes c ≡ now (r .entry)) ⌝ }
 {
     cart_in(&r[..])
 }

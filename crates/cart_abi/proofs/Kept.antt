@@ -4,13 +4,10 @@ use mathlib.Core.List.{List, []}
 use mathlib.Core.Option.{Option, none, some}
 use Prim.Native.Nat.{ℕ}
 use lib.Dec.{eqb}
-use borrow.Author.Tests.{eqb-false}
 use Rattle.lists.specs.Questions.{Question, asked}
 use Rattle.lists.proofs.Bools.{split}
-use Rattle.cart.specs.ChipState.{chipBytes}
 use Rattle.cart.specs.Record.{State, Outcome, guarded}
-use Rattle.cart.specs.Calls.{saveRead, saveData, chipState, fileOf, exported, questions, accepted, step}
-use Rattle.state_calls.specs.StateAnswer.{orZeros}
+use Rattle.cart.specs.Calls.{saveRead, saveData, fileOf, exported, questions, accepted, step}
 
 guarded-keeps : (qs : List Question) (d : List ℕ) (s : State) (o : Outcome) → o .next ≡ s → guarded qs d s o .next ≡ s
 guarded-keeps qs d s o e = split (λ (x : Outcome). x .next ≡ s) (eqb (asked qs) 0) (λ t. e) (λ t. refl)
@@ -18,17 +15,6 @@ guarded-keeps qs d s o e = split (λ (x : Outcome). x .next ≡ s) (eqb (asked q
 pub read-keeps : (a : ℕ) (s : State) → step (saveRead a) [] s .next ≡ s
 unfolding step accepted
 read-keeps a s = guarded-keeps (questions (saveRead a) [] s) [] s (accepted (saveRead a) [] s) refl
-
-pub state-keeps : (s : State) → step chipState [] s .next ≡ s
-unfolding step accepted
-state-keeps s = guarded-keeps (questions chipState [] s) [] s (accepted chipState [] s) refl
-
--- and an accepted `chip_state` gives bytes
-pub given-18 : (s : State) → step chipState [] s .refusal ≡ 0 → orZeros (step chipState [] s .given) ≡ step chipState [] s .given
-unfolding step accepted chipBytes
-given-18 s =
-    let n : ℕ = asked (questions chipState [] s) in
-    split (λ (o : Outcome). o .refusal ≡ 0 → orZeros (o .given) ≡ o .given) (eqb n 0) (λ t h. refl) (λ t h. absurd (eqb-false n 0 t h))
 
 exported-keeps : (f : Option (List ℕ)) (d : List ℕ) (s : State) → exported f d s .next ≡ s
 exported-keeps none d s = refl

@@ -22,8 +22,8 @@ pub extern "C" fn gbasave_save_read(
     if !is_record(cart) {
         return 2;
     }
-    let reply = save_read(cart_of(cart), memory, address);
-    tell(reply.refusal, reply.value, value)
+    let byte = save_read(cart_of(cart), memory, address);
+    tell(byte.refusal, byte.value, value)
 }
 
 #[no_mangle]
@@ -38,6 +38,6 @@ pub extern "C" fn gbasave_save_write(
     if !is_record(cart) {
         return 2;
     }
-    let reply = save_write(cart_of(cart), memory, address, value);
-    write_back(reply, cart)
+    let written = save_write(cart_of(cart), memory, address, value);
+    write_back(written, cart)
 }

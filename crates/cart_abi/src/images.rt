@@ -19,48 +19,48 @@ ghost use Rattle.cart_abi.specs.Abi.{answeredAt, titleAt, kindAnswer};
 pub extern "C" fn gbasave_read(image: &[u8], address: u32, value: &mut u32) -> u32
     ensures { λ x. ⌜ (x, now (value .exit)) ≡ answeredAt (read·spec 1 (now (image .entry)) address) (now (value .entry)) ⌝ }
 {
-    let told = read(image, address);
-    tell(told.refusal, told.value, value)
+    let byte = read(image, address);
+    tell(byte.refusal, byte.value, value)
 }
 
 #[no_mangle]
 pub extern "C" fn gbasave_read16(image: &[u8], address: u32, value: &mut u32) -> u32
     ensures { λ x. ⌜ (x, now (value .exit)) ≡ answeredAt (read·spec 2 (now (image .entry)) address) (now (value .entry)) ⌝ }
 {
-    let told = read16(image, address);
-    tell(told.refusal, told.value, value)
+    let half = read16(image, address);
+    tell(half.refusal, half.value, value)
 }
 
 #[no_mangle]
 pub extern "C" fn gbasave_read32(image: &[u8], address: u32, value: &mut u32) -> u32
     ensures { λ x. ⌜ (x, now (value .exit)) ≡ answeredAt (read·spec 4 (now (image .entry)) address) (now (value .entry)) ⌝ }
 {
-    let told = read32(image, address);
-    tell(told.refusal, told.value, value)
+    let word = read32(image, address);
+    tell(word.refusal, word.value, value)
 }
 
 #[no_mangle]
 pub extern "C" fn gbasave_header_checksum(image: &[u8], value: &mut u32) -> u32
     ensures { λ x. ⌜ (x, now (value .exit)) ≡ answeredAt (headerChecksum (now (image .entry))) (now (value .entry)) ⌝ }
 {
-    let told = header_checksum(image);
-    tell(told.refusal, told.value, value)
+    let sum = header_checksum(image);
+    tell(sum.refusal, sum.value, value)
 }
 
 #[no_mangle]
 pub extern "C" fn gbasave_title(image: &[u8], destination: &mut [u8], length: &mut u32) -> u32
     ensures { λ x. ⌜ (x, now (destination .exit), now (length .exit)) ≡ titleAt (headerTitle (now (image .entry)) (now (destination .entry))) (now (length .entry)) ⌝ }
 {
-    let told = header_title(image, destination);
-    tell(told.refusal, told.value, length)
+    let title = header_title(image, destination);
+    tell(title.refusal, title.value, length)
 }
 
 #[no_mangle]
 pub extern "C" fn gbasave_rom_crc(image: &[u8], value: &mut u32) -> u32
     ensures { λ x. ⌜ (x, now (value .exit)) ≡ answeredAt (romCrc (now (image .entry))) (now (value .entry)) ⌝ }
 {
-    let told = rom_crc(image);
-    tell(told.refusal, told.value, value)
+    let crc = rom_crc(image);
+    tell(crc.refusal, crc.value, value)
 }
 
 // Lent the image, it meets question 1.

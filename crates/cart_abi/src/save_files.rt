@@ -18,8 +18,8 @@ pub extern "C" fn gbasave_load_save(cart: &mut [u8; 24], memory: &mut [u8], file
     if !is_record(cart) {
         return 2;
     }
-    let reply = load_save(cart_of(cart), memory, file);
-    write_back(reply, cart)
+    let loaded = load_save(cart_of(cart), memory, file);
+    write_back(loaded, cart)
 }
 
 // Kind None has no file: the length is then 0.
@@ -35,8 +35,8 @@ pub extern "C" fn gbasave_save_data(
     if !is_record(cart) {
         return 2;
     }
-    let reply = save_data(cart_of(cart), memory, destination);
-    tell(reply.refusal, reply.value, length)
+    let exported = save_data(cart_of(cart), memory, destination);
+    tell(exported.refusal, exported.value, length)
 }
 
 #[no_mangle]
@@ -51,7 +51,7 @@ pub extern "C" fn gbasave_import_save(
     if !is_record(cart) {
         return 2;
     }
-    let reply = import_save(cart_of(cart), memory, file);
-    write_back(reply, cart);
-    tell(reply.refusal, reply.value, kept)
+    let imported = import_save(cart_of(cart), memory, file);
+    write_back(imported, cart);
+    tell(imported.refusal, imported.value, kept)
 }

@@ -20,8 +20,8 @@ pub extern "C" fn gbasave_eeprom_begin_dma(cart: &mut [u8; 24], words: u32) -> u
     if !is_record(cart) {
         return 2;
     }
-    let reply = eeprom_begin_dma(cart_of(cart), words as usize);
-    write_back(reply, cart)
+    let told = eeprom_begin_dma(cart_of(cart), words as usize);
+    write_back(told, cart)
 }
 
 #[no_mangle]
@@ -31,8 +31,8 @@ pub extern "C" fn gbasave_eeprom_write(cart: &mut [u8; 24], memory: &mut [u8], v
     if !is_record(cart) {
         return 2;
     }
-    let reply = eeprom_write(cart_of(cart), memory, value);
-    write_back(reply, cart)
+    let fed = eeprom_write(cart_of(cart), memory, value);
+    write_back(fed, cart)
 }
 
 #[no_mangle]
@@ -42,7 +42,7 @@ pub extern "C" fn gbasave_eeprom_read(cart: &mut [u8; 24], memory: &[u8], bit: &
     if !is_record(cart) {
         return 2;
     }
-    let reply = eeprom_read(cart_of(cart), memory);
-    write_back(reply, cart);
-    tell(reply.refusal, reply.value, bit)
+    let drawn = eeprom_read(cart_of(cart), memory);
+    write_back(drawn, cart);
+    tell(drawn.refusal, drawn.value, bit)
 }

@@ -3,7 +3,7 @@ use abi_record::cart_of;
 use abi_record::is_record;
 use abi_record::tell;
 use abi_record::write_back;
-use state_calls::chip_state;
+use cart::chip_bytes;
 use state_calls::eeprom_window_start;
 use state_calls::from_bytes;
 use state_calls::restore_chip_state;
@@ -21,8 +21,8 @@ ghost use Rattle.cart_abi.specs.Abi.{left, called, flagAt, stateAt, aske
 pub extern "C" fn gbasave_from_bytes(cart: &mut [u8; 24], image: &[u8], memory: &mut [u8]) -> u32
     ensures { λ x. ⌜ (x, now (cart .exit), now (memory .exit)) ≡ left (fromBytes (now (image .entry)) (now (memory .entry))) ⌝ }
 {
-    let reply = from_bytes(image, memory);
-    write_back(reply, cart)
+    let opened = from_bytes(image, memory);
+    write_back(opened, cart)
 }
 
 // The calls below are lent no memory: whichever one stands beside the record stays.
@@ -33,12 +33,9 @@ pub extern "C" fn gbasave_chip_state(cart: &[u8; 24], bytes: &mut [u8; 18]) -> u
     if !is_record(cart) {
         return 2;
     }
-    let answer = chip_state(cart_of(cart));
-    if answer.refusal != 0 {
-        return answer.refusal as u32;
-    }
-    let state = answer.bytes;
-    *bytes = state;
+    let given = cart_of(cart);
+    let chip = given.chip;
+    *bytes = chip_bytes(chip);
     0
 }
 
@@ -49,8 +46,8 @@ pub extern "C" fn gbasave_restore_chip_state(cart: &mut [u8; 24], bytes: &[u8]) 
     if !is_record(cart) {
         return 2;
     }
-    let reply = restore_chip_state(cart_of(cart), bytes);
-    write_back(reply, cart)
+    let restored = restore_chip_state(cart_of(cart), bytes);
+    write_back(restored, cart)
 }
 
 #[no_mangle]
@@ -60,9 +57,9 @@ pub extern "C" fn gbasave_take_save_dirty(cart: &mut [u8; 24], flag: &mut u32) -
     if !is_record(cart) {
         return 2;
     }
-    let reply = take_save_dirty(cart_of(cart));
-    write_back(reply, cart);
-    tell(reply.refusal, reply.value, flag)
+    let taken = take_save_dirty(cart_of(cart));
+    write_back(taken, cart);
+    tell(taken.refusal, taken.value, flag)
 }
 
 #[no_mangle]
@@ -72,8 +69,8 @@ pub extern "C" fn gbasave_uses_eeprom(cart: &[u8; 24], answer: &mut u32) -> u32
     if !is_record(cart) {
         return 2;
     }
-    let told = uses_eeprom(cart_of(cart));
-    tell(told.refusal, told.value, answer)
+    let used = uses_eeprom(cart_of(cart));
+    tell(used.refusal, used.value, answer)
 }
 
 #[no_mangle]
@@ -83,6 +80,6 @@ pub extern "C" fn gbasave_eeprom_window_start(cart: &[u8; 24], start: &mut u32) 
     if !is_record(cart) {
         return 2;
     }
-    let told = eeprom_window_start(cart_of(cart));
-    tell(told.refusal, told.value, start)
+    let window = eeprom_window_start(cart_of(cart));
+    tell(window.refusal, window.value, start)
 }

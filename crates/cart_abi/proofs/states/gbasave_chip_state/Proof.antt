@@ -1,6 +1,6 @@
 -- `cart_abi::states::gbasave_chip_state` meets its contract. Assumes nothing.
 use Rattle.lists.proofs.Bools.{denied, granted}
-use Rattle.cart_abi.proofs.Calls.{state-no, state-refused, state-given}
+use Rattle.cart_abi.proofs.Calls.{state-no, state-yes}
 use borrow.Author.Needs.{needs}
 use Rattle.cart_abi.proofs.states.gbasave_chip_state.Statement.{statement}
 use Rattle.cart_abi.proofs.states.gbasave_chip_state.Tie as tie
@@ -12,19 +12,8 @@ cart-of-requires : tie.Need-cart-of-requires
 cart-of-requires c κs = granted _ (c .before .is-record .ensures) (c .if1 .left)
 
 returns-2 : tie.Need-returns-2
-returns-2 c = let a = c .before .before .before .before .before .before .before .args in λ m. state-refused (a .cart .now) m (a .bytes .now) (c .before .before .before .chip-state .result) (granted _ (c .before .before .before .before .before .before .is-record .ensures) (c .before .before .before .before .before .if1 .left)) (c .before .before .before .before .cart-of .ensures) (c .before .before .before .chip-state .ensures m) (c .before .if2 .taken)
-
-returns-3 : tie.Need-returns-3
-returns-3 c = let a = c .before .before .before .before .before .before .before .args in λ m. state-given (a .cart .now) m (a .bytes .now) (c .before .before .before .chip-state .result) (granted _ (c .before .before .before .before .before .before .is-record .ensures) (c .before .before .before .before .before .if1 .left)) (c .before .before .before .before .cart-of .ensures) (c .before .before .before .chip-state .ensures m) (c .before .if2 .left)
+returns-2 c = let a = c .before .before .before .before .before .args in λ m. state-yes (a .cart .now) m (a .bytes .now) (c .before .before .cart-of .result) (granted _ (c .before .before .before .before .is-record .ensures) (c .before .before .before .if1 .left)) (c .before .before .cart-of .ensures) (c .chip-bytes .ensures)
 
 pub gbasave-chip-state-spec : {M : Type 1} → statement M
 gbasave-chip-state-spec =
-    tie.close
-    (tie.spec
-    (λ c κs. search needs)
-    returns
-    cart-of-requires
-    (λ c κs. search needs)
-    (λ c. search needs)
-    returns-2
-    returns-3)
+    tie.close (tie.spec (λ c κs. search needs) returns cart-of-requires (λ c κs. search needs) returns-2)
