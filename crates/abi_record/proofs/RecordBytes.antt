@@ -1,6 +1,6 @@
 -- The 24 bytes and the record give each other back. Assumes nothing.
 use mathlib.Core.Path.{_≡_, refl, sym, ap, _∙_}
-use mathlib.Core.Bool.{Bool, true, _&&_}
+use mathlib.Core.Bool.{Bool, true, false, _&&_}
 use mathlib.Core.List.{List, [], _∷_, _++_}
 use Prim.Native.Nat.{ℕ, suc, _+_, _*_, _-_, _/_, _%_, _^_, _≤_, _<_}
 use native.Mathlib.Nat.{div-div-eq-div-mul}
@@ -9,7 +9,7 @@ use lib.Dec.{leb, eqb}
 use lib.ListN.{length, getD, take, drop, replicate, length-drop, length-take, take-append-drop}
 use lib.Pow.{areBytes}
 use lib.Seq.{drop-cons, take-all}
-use borrow.Author.Tests.{leb-true, eqb-true, eqb-false, lt-ltb}
+use borrow.Author.Tests.{leb-true, eqb-true, eqb-false, lt-ltb, lt-leb, le-leb}
 use Rattle.lists.specs.Lists.{lowFirst, lowValue}
 use Rattle.lists.specs.Questions.{asked}
 use Rattle.lists.proofs.Bools.{split, and-left, and-right}
@@ -158,6 +158,9 @@ are-bytes : (l : List ℕ) → ((i : ℕ) → getD l i 0 < 256) → areBytes l �
 are-bytes [] h = refl
 are-bytes (b ∷ l) h = rw (lt-ltb b 256 (h 0), are-bytes l (λ i. h (suc i)))
 
+pub good-record : (r : List ℕ) → ((i : ℕ) → getD r i 0 < 256) → isRecord r ≡ true → (recordAllowed (cartOf r) ≡ true) × (recordBytes (cartOf r) ≡ r)
+good-record r b h = read r (are-bytes r b) h
+
 fields : (r : List ℕ) (n : ℕ) (k : SaveType) (chip : ChipRecord)
     → n ≡ getD r 0 0 + 256 * (getD r 1 0 + 256 * (getD r 2 0 + 256 * getD r 3 0))
     → k ≡ kindOf (getD r 4 0)
@@ -179,3 +182,22 @@ record-read r n k chip b h e f g =
     let q = fields r n k chip e f g in
     let y = read r (are-bytes r b) h in
     (q, ap recordAllowed q ∙ y .0, ap recordBytes q ∙ y .1)
+
+-- the questions of 24 bytes, up to the first no
+pub no-kind : (r : List ℕ) → 5 < getD r 4 0 → false ≡ isRecord r
+unfolding isRecord
+no-kind r k = rw (lt-leb (getD r 4 0) 5 k)
+
+pub no-flag : (r : List ℕ) → getD r 4 0 ≤ 5 → 1 < getD r 5 0 → false ≡ isRecord r
+unfolding isRecord
+no-flag r k f = rw (le-leb (getD r 4 0) 5 k, lt-leb (getD r 5 0) 1 f)
+
+pub no-length : (r : List ℕ) → getD r 4 0 ≤ 5 → getD r 5 0 ≤ 1 → imageLength (lowValue (take 4 r)) ≡ false → false ≡ isRecord r
+unfolding isRecord
+no-length r k f l = rw (le-leb (getD r 4 0) 5 k, le-leb (getD r 5 0) 1 f, l)
+
+pub by-chip : (r : List ℕ) {n : ℕ} → getD r 4 0 ≤ 5 → getD r 5 0 ≤ 1 → imageLength (lowValue (take 4 r)) ≡ true
+    → n ≡ asked (stateQuestions (take (length r - 6) (drop 6 r)))
+    → eqb n 0 ≡ isRecord r
+unfolding isRecord
+by-chip r k f l e = rw (le-leb (getD r 4 0) 5 k, le-leb (getD r 5 0) 1 f, l, e, rest 6 r)

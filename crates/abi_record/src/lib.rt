@@ -12,8 +12,7 @@ use kind::kind_number;
 use lists::low32;
 ghost use mathlib.Core.Path.{_≡_};
 ghost use mathlib.Core.Bool.{true};
-ghost use lib.ListN.{length, take};
-ghost use Rattle.lists.specs.Lists.{lowValue};
+ghost use lib.ListN.{length};
 ghost use Rattle.cart.specs.Record.{recordAllowed};
 ghost use Rattle.abi_record.specs.RecordBytes.{recordBytes, kindOf, cartOf, isRecord};
 ghost use Rattle.abi_record.specs.Places.{leftBy, told};
@@ -31,28 +30,29 @@ pub fn kind_of(n: u8) -> SaveType
     }
 }
 
-// The image's length.
-fn len_of(r: &[u8; 24]) -> usize
-    ensures { λ n. ⌜ n ≡ lowValue (take 4 (now (r .entry))) ⌝ }
+// Question 2, of bytes. A record's bytes are those of an allowed one, and are written back unchanged.
+fn stands(bytes: &[u8]) -> bool
+    requires { ⌜ length (now bytes) ≡ 24 ⌝ }
+    ensures { λ b. ⌜ b ≡ isRecord (now (bytes .entry)) ⌝ }
+    ensures { λ _. ⌜ (isRecord (now (bytes .entry)) ≡ true → (recordAllowed (cartOf (now (bytes .entry))) ≡ true) × (recordBytes (cartOf (now (bytes .entry))) ≡ now (bytes .entry))) ⌝ }
 {
-    low32(r[0], r[1], r[2], r[3]) as usize
+    if 5 < bytes[4] {
+        return false;
+    }
+    if 1 < bytes[5] {
+        return false;
+    }
+    if !image_length(low32(bytes[0], bytes[1], bytes[2], bytes[3]) as usize) {
+        return false;
+    }
+    state_questions(&bytes[6..]) == 0
 }
 
-// Question 2, of bytes.
 pub fn is_record(r: &[u8; 24]) -> bool
     ensures { λ b. ⌜ b ≡ isRecord (now (r .entry)) ⌝ }
+    ensures { λ _. ⌜ (isRecord (now (r .entry)) ≡ true → (recordAllowed (cartOf (now (r .entry))) ≡ true) × (recordBytes (cartOf (now (r .entry))) ≡ now (r .entry))) ⌝ }
 {
-    if 5 < r[4] {
-        return false;
-    }
-    if 1 < r[5] {
-        return false;
-    }
-    if !image_length(len_of(r)) {
-        return false;
-    }
-    let bytes = &r[..];
-    state_questions(&bytes[6..]) == 0
+    stands(&r[..])
 }
 
 // What 24 bytes say that are a record: an allowed one, and, written again, the same bytes.

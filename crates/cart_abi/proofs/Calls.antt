@@ -8,13 +8,13 @@ use Rattle.cart.specs.declared.Cartridge.{Cartridge}
 use Rattle.cart.specs.declared.Reply.{Reply}
 use Rattle.cart.specs.ChipState.{chipBytes}
 use Rattle.cart.specs.Record.{State, Outcome, fromBytes, recordAllowed}
-use Rattle.cart.specs.Calls.{saveRead, saveData, chipState, takeSaveDirty, questions, accepted, step}
+use Rattle.cart.specs.Calls.{saveData, chipState, takeSaveDirty, questions, accepted, step}
 use Rattle.cart.specs.Replies.{state, replied, exportReplied, flagReplied}
 use Rattle.cart.proofs.Replies.{step-yes}
 use Rattle.abi_record.specs.RecordBytes.{recordBytes, cartOf, isRecord}
 use Rattle.abi_record.specs.Places.{leftBy, told}
 use Rattle.cart_abi.specs.Abi.{left, called, calledAt, exportAt, flagAt, stateAt, answeredAt, askedAt}
-use Rattle.cart_abi.proofs.Kept.{read-keeps, export-keeps}
+use Rattle.cart_abi.proofs.Kept.{export-keeps}
 
 module _ (call : State → Outcome) (r m : List ℕ) where
   pub called-no : isRecord r ≡ false → (2, r, m) ≡ called call r m
@@ -44,18 +44,6 @@ module _ (call : State → Outcome) (r m : List ℕ) where
         (ap (λ (l : ℕ × ℕ). (l .0, b, m', l .1)) t
         ∙ ap (λ (l : List ℕ). (reply .refusal, l, m', told (reply .refusal) (reply .value) place .1)) g
         ∙ ap (λ (q : Reply × List ℕ). (q .0 .refusal, recordBytes (q .0 .cart), q .1, told (q .0 .refusal) (q .0 .value) place .1)) f)
-
--- a record that is lent to be read alone stays
-kept-bytes : {c next : Cartridge} {r : List ℕ} → recordBytes c ≡ r → next ≡ c → r ≡ recordBytes next
-kept-bytes b k = sym b ∙ ap recordBytes (sym k)
-
-pub read-yes : (a : ℕ) (r m : List ℕ) (place : ℕ) {c : Cartridge} (reply : Reply) {x p : ℕ} → isRecord r ≡ true → (c ≡ cartOf r) × (recordAllowed c ≡ true) × (recordBytes c ≡ r)
-    → (reply, m) ≡ replied (step (saveRead a) [] (state c m))
-    → (x, p) ≡ told (reply .refusal) (reply .value) place
-    → (x, r, m, p) ≡ calledAt (step (saveRead a) []) r m place
-read-yes a r m place {c} reply h e f t =
-    called-at-yes (step (saveRead a) []) r m place reply h (e .0) f
-    (kept-bytes (e .2) (ap (λ (q : Reply × List ℕ). q .0 .cart) f ∙ ap (λ (s : State). s .cart) (read-keeps a (state c m)))) t
 
 -- `save_data`
 module _ (r m d : List ℕ) (place : ℕ) where

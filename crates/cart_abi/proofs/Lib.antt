@@ -1,4 +1,5 @@
-pub mod Kept
-pub mod Calls
 pub mod Answers
+pub mod ByteCalls
+pub mod Calls
+pub mod Kept
 pub mod Refused

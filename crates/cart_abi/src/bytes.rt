@@ -1,10 +1,9 @@
 // `save_read` and `save_write`: the byte calls.
-use abi_record::cart_of;
 use abi_record::is_record;
-use abi_record::tell;
-use abi_record::write_back;
-use byte_calls::save_read;
-use byte_calls::save_write;
+use abi_record::kind_of;
+use in_place::read_in_place;
+use in_place::write_in_place;
+use kind::memory_size;
 ghost use mathlib.Core.Path.{_≡_};
 ghost use mathlib.Core.List.{[]};
 ghost use Rattle.cart.specs.Calls.{saveRead, saveWrite, step};
@@ -22,8 +21,12 @@ pub extern "C" fn gbasave_save_read(
     if !is_record(cart) {
         return 2;
     }
-    let byte = save_read(cart_of(cart), memory, address);
-    tell(byte.refusal, byte.value, value)
+    let kind = kind_of(cart[4]);
+    if memory.len() != memory_size(kind) {
+        return 3;
+    }
+    *value = read_in_place(kind, &cart[..], memory, address) as u32;
+    0
 }
 
 #[no_mangle]
@@ -38,6 +41,10 @@ pub extern "C" fn gbasave_save_write(
     if !is_record(cart) {
         return 2;
     }
-    let written = save_write(cart_of(cart), memory, address, value);
-    write_back(written, cart)
+    let kind = kind_of(cart[4]);
+    if memory.len() != memory_size(kind) {
+        return 3;
+    }
+    write_in_place(kind, &mut cart[..], memory, address, value);
+    0
 }

@@ -1,20 +1,31 @@
--- `cart_abi::bytes::gbasave_save_read` meets its contract. Assumes nothing.
+use mathlib.Core.Path.{sym, ap, _∙_}
 use mathlib.Core.List.{[]}
+use Rattle.kind.specs.declared.SaveType.{SaveType}
+use Rattle.kind.specs.Kind.{memorySize}
+use Rattle.cart.specs.Calls.{saveRead, readSave, step}
+use Rattle.in_place.specs.InPlace.{stateOf}
 use Rattle.lists.proofs.Bools.{denied, granted}
-use Rattle.cart.specs.Calls.{saveRead, step}
-use Rattle.cart_abi.proofs.Calls.{called-at-no, read-yes}
+use Rattle.cart_abi.proofs.Calls.{called-at-no}
+use Rattle.cart_abi.proofs.ByteCalls.{read-no, read-yes}
 use borrow.Author.Needs.{needs}
 use Rattle.cart_abi.proofs.bytes.gbasave_save_read.Statement.{statement}
 use Rattle.cart_abi.proofs.bytes.gbasave_save_read.Tie as tie
 
 returns : tie.Need-returns
-returns c = let a = c .before .before .before .args in called-at-no (step (saveRead (a .address)) []) (a .cart .now) (a .memory .now) (a .value .now) (denied _ (c .before .is-record .ensures) (c .if1 .taken))
-
-cart-of-requires : tie.Need-cart-of-requires
-cart-of-requires c κs = granted _ (c .before .is-record .ensures) (c .if1 .left)
+returns c = let a = c .before .before .before .args in called-at-no (step (saveRead (a .address)) []) (a .cart .now) (a .memory .now) (a .value .now) (denied _ (c .before .is-record .ensures .0) (c .if1 .taken))
 
 returns-2 : tie.Need-returns-2
-returns-2 c = let a = c .before .before .before .before .before .before .before .args in read-yes (a .address) (a .cart .now) (a .memory .now) (a .value .now) (c .before .before .save-read .result) (granted _ (c .before .before .before .before .before .is-record .ensures) (c .before .before .before .before .if1 .left)) (c .before .before .before .cart-of .ensures) (c .before .before .save-read .ensures) (c .tell .ensures)
+returns-2 c =
+    let a = c .before .before .before .before .before .before .before .args in
+    let h = granted _ (c .before .before .before .before .before .is-record .ensures .0) (c .before .before .before .before .if1 .left) in
+    read-no (a .cart .now) (a .memory .now) h (c .before .before .before .before .before .is-record .ensures .1 h) (λ e. c .if2 .taken (e ∙ sym (c .before .memory-size .ensures ∙ ap memorySize (c .before .before .kind-of .ensures)))) (a .address) (a .value .now)
+
+returns-3 : tie.Need-returns-3
+returns-3 c =
+    let a = c .before .before .before .before .before .before .before .before .before .args in
+    let h = granted _ (c .before .before .before .before .before .before .before .is-record .ensures .0) (c .before .before .before .before .before .before .if1 .left) in
+    read-yes (a .cart .now) (a .memory .now) h (c .before .before .before .before .before .before .before .is-record .ensures .1 h) (c .before .before .if2 .left ∙ c .before .before .before .memory-size .ensures ∙ ap memorySize (c .before .before .before .before .kind-of .ensures)) (a .address) (a .value .now)
+    (c .read-in-place .ensures ∙ ap (λ (k : SaveType). readSave k (stateOf (a .cart .now) (a .memory .now)) (a .address)) (c .before .before .before .before .kind-of .ensures))
 
 pub gbasave-save-read-spec : {M : Type 1} → statement M
 gbasave-save-read-spec =
@@ -22,7 +33,10 @@ gbasave-save-read-spec =
     (tie.spec
     (λ c κs. search needs)
     returns
-    cart-of-requires
+    (λ c. search needs)
     (λ c κs. search needs)
     (λ c κs. search needs)
-    returns-2)
+    returns-2
+    (λ c κs. search needs)
+    (λ c. search needs)
+    returns-3)

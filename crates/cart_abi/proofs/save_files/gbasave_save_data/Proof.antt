@@ -6,13 +6,13 @@ use Rattle.cart_abi.proofs.save_files.gbasave_save_data.Statement.{stat
 use Rattle.cart_abi.proofs.save_files.gbasave_save_data.Tie as tie
 
 returns : tie.Need-returns
-returns c = let a = c .before .before .before .before .args in export-no (a .cart .now) (a .memory .now) (a .destination .now) (a .length .now) (denied _ (c .before .is-record .ensures) (c .if1 .taken))
+returns c = let a = c .before .before .before .before .args in export-no (a .cart .now) (a .memory .now) (a .destination .now) (a .length .now) (denied _ (c .before .is-record .ensures .0) (c .if1 .taken))
 
 cart-of-requires : tie.Need-cart-of-requires
-cart-of-requires c κs = granted _ (c .before .is-record .ensures) (c .if1 .left)
+cart-of-requires c κs = granted _ (c .before .is-record .ensures .0) (c .if1 .left)
 
 returns-2 : tie.Need-returns-2
-returns-2 c = let a = c .before .before .before .before .before .before .before .before .before .before .before .args in export-yes (a .cart .now) (a .memory .now) (a .destination .now) (a .length .now) (c .before .before .before .before .save-data .result) (granted _ (c .before .before .before .before .before .before .before .before .is-record .ensures) (c .before .before .before .before .before .before .before .if1 .left)) (c .before .before .before .before .before .before .cart-of .ensures) (c .before .before .before .before .save-data .ensures) (c .tell .ensures)
+returns-2 c = let a = c .before .before .before .before .before .before .before .before .before .before .before .args in export-yes (a .cart .now) (a .memory .now) (a .destination .now) (a .length .now) (c .before .before .before .before .save-data .result) (granted _ (c .before .before .before .before .before .before .before .before .is-record .ensures .0) (c .before .before .before .before .before .before .before .if1 .left)) (c .before .before .before .before .before .before .cart-of .ensures) (c .before .before .before .before .save-data .ensures) (c .tell .ensures)
 
 pub gbasave-save-data-spec : {M : Type 1} → statement M
 gbasave-save-data-spec =

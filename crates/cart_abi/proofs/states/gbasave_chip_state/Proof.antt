@@ -6,13 +6,13 @@ use Rattle.cart_abi.proofs.states.gbasave_chip_state.Statement.{stateme
 use Rattle.cart_abi.proofs.states.gbasave_chip_state.Tie as tie
 
 returns : tie.Need-returns
-returns c = let a = c .before .before .args in λ m. state-no (a .cart .now) m (a .bytes .now) (denied _ (c .before .is-record .ensures) (c .if1 .taken))
+returns c = let a = c .before .before .args in λ m. state-no (a .cart .now) m (a .bytes .now) (denied _ (c .before .is-record .ensures .0) (c .if1 .taken))
 
 cart-of-requires : tie.Need-cart-of-requires
-cart-of-requires c κs = granted _ (c .before .is-record .ensures) (c .if1 .left)
+cart-of-requires c κs = granted _ (c .before .is-record .ensures .0) (c .if1 .left)
 
 returns-2 : tie.Need-returns-2
-returns-2 c = let a = c .before .before .before .before .before .args in λ m. state-yes (a .cart .now) m (a .bytes .now) (c .before .before .cart-of .result) (granted _ (c .before .before .before .before .is-record .ensures) (c .before .before .before .if1 .left)) (c .before .before .cart-of .ensures) (c .chip-bytes .ensures)
+returns-2 c = let a = c .before .before .before .before .before .args in λ m. state-yes (a .cart .now) m (a .bytes .now) (c .before .before .cart-of .result) (granted _ (c .before .before .before .before .is-record .ensures .0) (c .before .before .before .if1 .left)) (c .before .before .cart-of .ensures) (c .chip-bytes .ensures)
 
 pub gbasave-chip-state-spec : {M : Type 1} → statement M
 gbasave-chip-state-spec =

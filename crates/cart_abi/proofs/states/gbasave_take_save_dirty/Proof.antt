@@ -9,13 +9,13 @@ use Rattle.cart_abi.proofs.states.gbasave_take_save_dirty.Statement.{st
 use Rattle.cart_abi.proofs.states.gbasave_take_save_dirty.Tie as tie
 
 returns : tie.Need-returns
-returns c = let a = c .before .before .before .args in λ m. flag-no (a .cart .now) m (a .flag .now) (denied _ (c .before .is-record .ensures) (c .if1 .taken))
+returns c = let a = c .before .before .before .args in λ m. flag-no (a .cart .now) m (a .flag .now) (denied _ (c .before .is-record .ensures .0) (c .if1 .taken))
 
 cart-of-requires : tie.Need-cart-of-requires
-cart-of-requires c κs = granted _ (c .before .before .is-record .ensures) (c .before .if1 .left)
+cart-of-requires c κs = granted _ (c .before .before .is-record .ensures .0) (c .before .if1 .left)
 
 returns-2 : tie.Need-returns-2
-returns-2 c = let a = c .before .before .before .before .before .before .before .before .before .before .args in λ m. flag-yes (a .cart .now) m (a .flag .now) (c .before .before .before .before .take-save-dirty .result) (granted _ (c .before .before .before .before .before .before .before .before .is-record .ensures) (c .before .before .before .before .before .before .before .if1 .left)) (c .before .before .before .before .before .cart-of .ensures .0) (c .before .before .before .before .take-save-dirty .ensures m) (ap (λ (l : ℕ × List ℕ). l .1) (c .before .before .write-back .ensures)) (c .tell .ensures)
+returns-2 c = let a = c .before .before .before .before .before .before .before .before .before .before .args in λ m. flag-yes (a .cart .now) m (a .flag .now) (c .before .before .before .before .take-save-dirty .result) (granted _ (c .before .before .before .before .before .before .before .before .is-record .ensures .0) (c .before .before .before .before .before .before .before .if1 .left)) (c .before .before .before .before .before .cart-of .ensures .0) (c .before .before .before .before .take-save-dirty .ensures m) (ap (λ (l : ℕ × List ℕ). l .1) (c .before .before .write-back .ensures)) (c .tell .ensures)
 
 pub gbasave-take-save-dirty-spec : {M : Type 1} → statement M
 gbasave-take-save-dirty-spec =

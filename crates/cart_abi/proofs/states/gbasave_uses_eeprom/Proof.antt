@@ -7,13 +7,13 @@ use Rattle.cart_abi.proofs.states.gbasave_uses_eeprom.Statement.{statem
 use Rattle.cart_abi.proofs.states.gbasave_uses_eeprom.Tie as tie
 
 returns : tie.Need-returns
-returns c = let a = c .before .before .args in asked-no usesEepromOf (a .cart .now) (a .answer .now) (denied _ (c .before .is-record .ensures) (c .if1 .taken))
+returns c = let a = c .before .before .args in asked-no usesEepromOf (a .cart .now) (a .answer .now) (denied _ (c .before .is-record .ensures .0) (c .if1 .taken))
 
 cart-of-requires : tie.Need-cart-of-requires
-cart-of-requires c κs = granted _ (c .before .is-record .ensures) (c .if1 .left)
+cart-of-requires c κs = granted _ (c .before .is-record .ensures .0) (c .if1 .left)
 
 returns-2 : tie.Need-returns-2
-returns-2 c = let a = c .before .before .before .before .before .before .args in asked-yes usesEepromOf (a .cart .now) (a .answer .now) (c .before .before .uses-eeprom .result) (granted _ (c .before .before .before .before .before .is-record .ensures) (c .before .before .before .before .if1 .left)) (c .before .before .before .cart-of .ensures .0) (c .before .before .uses-eeprom .ensures) (c .tell .ensures)
+returns-2 c = let a = c .before .before .before .before .before .before .args in asked-yes usesEepromOf (a .cart .now) (a .answer .now) (c .before .before .uses-eeprom .result) (granted _ (c .before .before .before .before .before .is-record .ensures .0) (c .before .before .before .before .if1 .left)) (c .before .before .before .cart-of .ensures .0) (c .before .before .uses-eeprom .ensures) (c .tell .ensures)
 
 pub gbasave-uses-eeprom-spec : {M : Type 1} → statement M
 gbasave-uses-eeprom-spec =

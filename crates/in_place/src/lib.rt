@@ -1,0 +1,86 @@
+// The byte calls on the 24 bytes of a record as they are lent: only what a call reads is taken out, and only what it changes is written.
+
+use cart::bit;
+use flash::Flash;
+use flash::flash_read;
+use flash::flash_write;
+use kind::SaveType;
+use memory::apply;
+use memory::dirty_behind;
+use memory::put_byte;
+ghost use mathlib.Core.Path.{_≡_};
+ghost use mathlib.Core.Bool.{true};
+ghost use Prim.Native.Nat.{_%_, _<_};
+ghost use lib.ListN.{length, set};
+ghost use Rattle.kind.specs.Kind.{memorySize};
+ghost use Rattle.flash.specs.Flash.{writeByte};
+ghost use Rattle.cart.specs.ChipState.{bit as bit·spec};
+ghost use Rattle.cart.specs.Calls.{withFlash, flashOf, readSave, writeSave};
+ghost use Rattle.abi_record.specs.RecordBytes.{cartOf, isRecord};
+ghost use Rattle.in_place.specs.InPlace.{stateOf, bytesOf};
+
+fn flash_in(cart: &[u8]) -> Flash
+    requires { ⌜ length (now cart) ≡ 24 ⌝ }
+    ensures { λ f. ⌜ f ≡ cartOf (now (cart .entry)) .chip .flash ⌝ }
+{
+    Flash {
+        state: cart[6],
+        bank: cart[7],
+        id: cart[8] == 1,
+    }
+}
+
+fn put_flash(cart: &mut [u8], dirty: bool, flash: Flash)
+    requires { ⌜ length (now cart) ≡ 24 ⌝ }
+    ensures { λ _. ⌜ now (cart .exit) ≡ set (set (set (set (now (cart .entry)) 5 (bit·spec dirty)) 6 (flash .state)) 7 (flash .bank)) 8 (bit·spec (flash .id)) ⌝ }
+{
+    cart[5] = bit(dirty);
+    cart[6] = flash.state;
+    cart[7] = flash.bank;
+    cart[8] = bit(flash.id);
+}
+
+fn write_flash(cart: &mut [u8], memory: &mut [u8], address: u32, value: u8)
+    requires { ⌜ (length (now cart) ≡ 24) × (isRecord (now cart) ≡ true) × (0 < length (now memory)) × (length (now memory) % 4096 ≡ 0) ⌝ }
+    ensures { λ _. ⌜ (now (cart .exit), now (memory .exit)) ≡ bytesOf (withFlash (stateOf (now (cart .entry)) (now (memory .entry))) (writeByte (flashOf (stateOf (now (cart .entry)) (now (memory .entry)))) address value)) ⌝ }
+{
+    let t = flash_write(flash_in(cart), memory.len(), address, value);
+    let store = t.store;
+    let next = t.flash;
+    let dirty = dirty_behind(store, cart[5] == 1);
+    apply(store, memory);
+    put_flash(cart, dirty, next);
+}
+
+// What a byte written leaves, all questions answered yes.
+pub fn write_in_place(kind: SaveType, cart: &mut [u8], memory: &mut [u8], address: u32, value: u8)
+    requires { ⌜ (length (now cart) ≡ 24) × (isRecord (now cart) ≡ true) × (length (now memory) ≡ memorySize kind) ⌝ }
+    ensures { λ _. ⌜ (now (cart .exit), now (memory .exit)) ≡ bytesOf (writeSave kind (stateOf (now (cart .entry)) (now (memory .entry))) address value) ⌝ }
+{
+    match kind {
+        SaveType::None => {}
+        SaveType::Sram => {
+            put_byte(memory, (address % 32768) as usize, value);
+            cart[5] = 1;
+        }
+        SaveType::Flash64 => write_flash(cart, memory, address, value),
+        SaveType::Flash128 => write_flash(cart, memory, address, value),
+        SaveType::Eeprom512 => put_byte(memory, (address % 8192) as usize, value),
+        SaveType::Eeprom8k => put_byte(memory, (address % 8192) as usize, value),
+    }
+}
+
+// The byte at an address.
+pub fn read_in_place(kind: SaveType, cart: &[u8], memory: &[u8], address: u32) -> u8
+    requires { ⌜ (length (now cart) ≡ 24) × (length (now memory) ≡ memorySize kind) ⌝ }
+    ensures { λ r. ⌜ r ≡ readSave kind (stateOf (now (cart .entry)) (now (memory .entry))) address ⌝ }
+{
+    match kind {
+        SaveType::None => 0xFF,
+        SaveType::Sram => memory[(address % 32768) as usize],
+        SaveType::Flash64 => flash_read(0x1B32, flash_in(cart), memory, address),
+        SaveType::Flash128 => flash_read(0x1362, flash_in(cart), memory, address),
+        SaveType::Eeprom512 => memory[(address % 8192) as usize],
+        SaveType::Eeprom8k => memory[(address % 8192) as usize],
+    }
+}
