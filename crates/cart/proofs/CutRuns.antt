@@ -35,7 +35,7 @@ use Rattle.cart.proofs.Recoverable.{Recoverable, NoByteWrite, recoverab
 eeprom-file-le : (s : State) → length (eepromFile s) ≤ length (s .memory)
 eeprom-file-le s = simp length-take (omega arith)
 
-file-fits : (kind : SaveType) (s : State) (d : List ℕ) → length d ≡ length (s .memory) → holds (fileOf kind s) d ≡ true
+pub file-fits : (kind : SaveType) (s : State) (d : List ℕ) → length d ≡ length (s .memory) → holds (fileOf kind s) d ≡ true
 unfolding fileOf
 file-fits None s d e = refl
 file-fits Sram s d e = le-leb (length (s .memory)) (length d) (omega arith)
@@ -48,17 +48,26 @@ file-in : (f : Option (List ℕ)) (d : List ℕ) (s : State) → fileIn (exporte
 file-in none d s = refl
 file-in (some f) d s = ap some (front-of f d)
 
-file-left : (s : State) → Sound s → fileLeft s ≡ fileOf (s .cart .kind) s
-unfolding fileLeft questions accepted
-file-left s k =
+-- an export into a destination as long as the memory, of a state that questions 2 and 3 let by
+pub export-accepted : (d : List ℕ) (s : State) → recordAllowed (s .cart) ≡ true → eqb (length (s .memory)) (memorySize (s .cart .kind)) ≡ true → length d ≡ length (s .memory)
+    → step saveData d s ≡ exported (fileOf (s .cart .kind) s) d s
+unfolding questions accepted
+export-accepted d s a b e = step-accepted saveData d s (a, (b, (file-fits (s .cart .kind) s d e, tt)))
+
+pub state-accepted : (s : State) → recordAllowed (s .cart) ≡ true → step chipState [] s ≡ outcome (chipBytes (s .cart .chip)) s []
+unfolding questions accepted
+state-accepted s a = step-accepted chipState [] s (a, tt)
+
+pub file-left : (s : State) → recordAllowed (s .cart) ≡ true → eqb (length (s .memory)) (memorySize (s .cart .kind)) ≡ true → fileLeft s ≡ fileOf (s .cart .kind) s
+unfolding fileLeft
+file-left s a b =
     let d : List ℕ = replicate (length (s .memory)) 0 in
-    let y = file-fits (s .cart .kind) s d (length-replicate (length (s .memory)) 0) in
-    ap (λ (o : Outcome). fileIn (o .given) (o .destination)) (step-accepted saveData d s (record-allowed s k, (memory-fits s k, (y, tt))))
+    ap (λ (o : Outcome). fileIn (o .given) (o .destination)) (export-accepted d s a b (length-replicate (length (s .memory)) 0))
     ∙ file-in (fileOf (s .cart .kind) s) d s
 
-bytes-left : (s : State) → Sound s → bytesLeft s ≡ chipBytes (s .cart .chip)
-unfolding bytesLeft questions accepted
-bytes-left s k = ap (λ (o : Outcome). o .given) (step-accepted chipState [] s (record-allowed s k, tt))
+pub bytes-left : (s : State) → recordAllowed (s .cart) ≡ true → bytesLeft s ≡ chipBytes (s .cart .chip)
+unfolding bytesLeft
+bytes-left s a = ap (λ (o : Outcome). o .given) (state-accepted s a)
 
 -- the file gives the memory back
 abbrev memoryFrom : ℕ → Option (List ℕ) → List ℕ
@@ -131,10 +140,10 @@ cut-quiet image memory s h r =
     let b : List ℕ = chipBytes (s .cart .chip) in
     let x = back image (fileLeft s) (sound-fresh image memory h) in
     let m : memoryFrom (memorySize (detectSaveType image)) (fileLeft s) ≡ s .memory =
-    ap (memoryFrom (memorySize (detectSaveType image))) (file-left s k ∙ ap (λ (i : SaveType). fileOf i s) (r .kindIs))
+    ap (memoryFrom (memorySize (detectSaveType image))) (file-left s (record-allowed s k) (memory-fits s k) ∙ ap (λ (i : SaveType). fileOf i s) (r .kindIs))
     ∙ memory-back image (detectSaveType image) s (r .kindIs) r
     in
-    ap₂ (λ (l : List ℕ) (t : State). restore l (reloaded (fileLeft s) t) .next) (bytes-left s k) (ap (λ (o : Outcome). o .next) (opened image memory h))
+    ap₂ (λ (l : List ℕ) (t : State). restore l (reloaded (fileLeft s) t) .next) (bytes-left s (record-allowed s k)) (ap (λ (o : Outcome). o .next) (opened image memory h))
     ∙ restore-next b (reloaded (fileLeft s) (fresh image)) (x .sound) (chip-allowed (s .cart .chip) (k .flashOk) (k .eepromOk))
     ∙ ap (restoring b) (x .is)
     ∙ (λ i.
@@ -144,7 +153,7 @@ cut-quiet image memory s h r =
     })
 
 -- what of an outcome does not show the flag
-abbrev unflagged : Outcome → Outcome
+abbrev pub unflagged : Outcome → Outcome
 unflagged o = record { refusal = o .refusal; given = o .given; flag = false; next = quiet (o .next); destination = o .destination }
 
 -- no call looks at the flag
@@ -214,7 +223,7 @@ step-quiet c d s =
     rw (questions-quiet c d s)
     (either-quiet (eqb (asked (questions c d s)) 0) (accepted c d (quiet s)) _ (accepted c d s) _ (accepted-quiet c d s) refl)
 
-step-same : (c : Call) (d : List ℕ) (s t : State) → quiet s ≡ quiet t → unflagged (step c d s) ≡ unflagged (step c d t)
+pub step-same : (c : Call) (d : List ℕ) (s t : State) → quiet s ≡ quiet t → unflagged (step c d s) ≡ unflagged (step c d t)
 step-same c d s t e = sym (step-quiet c d s) ∙ ap (λ (z : State). unflagged (step c d z)) e ∙ step-quiet c d t
 
 -- any number of cuts
@@ -233,8 +242,8 @@ cuts-kept image memory (suc n) s h r =
 -- what a cut leaves does not show the flag
 left-same : (s t : State) → Sound s → Sound t → quiet s ≡ quiet t → (fileLeft s ≡ fileLeft t) × (bytesLeft s ≡ bytesLeft t)
 left-same s t k l e = (
-  file-left s k ∙ sym (file-quiet (s .cart .kind) s) ∙ ap (λ (z : State). fileOf (z .cart .kind) z) e ∙ file-quiet (t .cart .kind) t ∙ sym (file-left t l),
-  bytes-left s k ∙ ap (λ (z : State). chipBytes (z .cart .chip)) e ∙ sym (bytes-left t l),
+  file-left s (record-allowed s k) (memory-fits s k) ∙ sym (file-quiet (s .cart .kind) s) ∙ ap (λ (z : State). fileOf (z .cart .kind) z) e ∙ file-quiet (t .cart .kind) t ∙ sym (file-left t (record-allowed t l) (memory-fits t l)),
+  bytes-left s (record-allowed s k) ∙ ap (λ (z : State). chipBytes (z .cart .chip)) e ∙ sym (bytes-left t (record-allowed t l)),
 )
 
 abbrev NoByteWrites : SaveType → List Turn → Type 0

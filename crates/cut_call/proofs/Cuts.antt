@@ -1,0 +1,103 @@
+-- What the calls of a cut leave. Assumes nothing.
+use mathlib.Core.Path.{_≡_, refl, sym, ap, _∙_}
+use mathlib.Core.Logic.{_≢_}
+use mathlib.Core.Bool.{true}
+use mathlib.Core.List.{List, [], _++_}
+use mathlib.Core.Option.{Option, none, some}
+use Prim.Native.Nat.{ℕ, _≤_}
+use native.Mathlib.Omega.{arith}
+use lib.Dec.{eqb}
+use lib.ListN.{length, take, length-take}
+use lib.Seq.{length-take-le, take-append-le}
+use borrow.Author.Tests.{eq-eqb, ne-eqb, leb-true}
+use Rattle.lists.proofs.Bools.{split}
+use Rattle.lists.proofs.Parts.{front-of, length-into}
+use Rattle.kind.specs.declared.SaveType.{SaveType}
+use Rattle.kind.specs.declared.SaveType.the-variants.{None, Sram, Flash64, Flash128, Eeprom512, Eeprom8k}
+use Rattle.kind.specs.Kind.{memorySize}
+use Rattle.cart.specs.declared.Cartridge.{Cartridge}
+use Rattle.cart.specs.declared.Reply.{Reply}
+use Rattle.cart.specs.ChipState.{chipBytes}
+use Rattle.cart.specs.Record.{State, Outcome, recordAllowed}
+use Rattle.cart.specs.Calls.{saveData, chipState, fileOf, eepromFile, holds, exported, step}
+use Rattle.cart.specs.Cut.{fileLeft, bytesLeft, reloaded, cut}
+use Rattle.cart.specs.Replies.{state, first, exportReplied}
+use Rattle.cart.proofs.CutRuns.{file-fits, export-accepted, state-accepted, file-left, bytes-left}
+use Rattle.state_calls.specs.StateAnswer.{orZeros}
+use Rattle.cut_call.specs.Loads.{loadedFrom}
+
+-- a file has bytes
+Long : Option (List ℕ) → Type 0
+Long none = _≡_ {A = ℕ} 0 0
+Long (some f) = length f ≢ 0
+
+eeprom-long : (s : State) → length (s .memory) ≡ 8192 → length (eepromFile s) ≢ 0
+eeprom-long s e =
+    split (λ (k : ℕ). length (take k (s .memory)) ≢ 0) (s .cart .chip .eeprom .large)
+    (λ l z. omega (arith, length-take 8192 (s .memory)))
+    (λ l z. omega (arith, length-take 512 (s .memory)))
+
+file-long : (kind : SaveType) (s : State) → length (s .memory) ≡ memorySize kind → Long (fileOf kind s)
+unfolding fileOf Long
+file-long None s e = refl
+file-long Sram s e = λ z. omega arith
+file-long Flash64 s e = λ z. omega arith
+file-long Flash128 s e = λ z. omega arith
+file-long Eeprom512 s e = eeprom-long s e
+file-long Eeprom8k s e = eeprom-long s e
+
+-- what the code loads from: the front of the destination, as long as the export answers
+abbrev kept : Outcome → List ℕ
+kept o = take (first (o .given)) (o .destination)
+
+reload-is : (f : Option (List ℕ)) (d : List ℕ) (s t : State) → Long f → loadedFrom (kept (exported f d s)) t ≡ reloaded f t
+unfolding Long
+reload-is none d s t h = refl
+reload-is (some f) d s t h = rw (front-of f d, ne-eqb (length f) 0 h)
+
+-- the export's length is the destination's at most
+given-fits : (f : Option (List ℕ)) (d : List ℕ) (s : State) → holds f d ≡ true → first (exported f d s .given) ≤ length d
+given-fits none d s h = omega arith
+given-fits (some f) d s h = leb-true (length f) (length d) h
+
+length-exported : (f : Option (List ℕ)) (d : List ℕ) (s : State) → holds f d ≡ true → length (exported f d s .destination) ≡ length d
+length-exported none d s h = refl
+length-exported (some f) d s h = length-into f d (leb-true (length f) (length d) h)
+
+-- r and d' is what an export into the front of the scratch answered and left
+module _ (scratch d' : List ℕ) (cart : Cartridge) (m : List ℕ) (r : Reply) (a : recordAllowed cart ≡ true) (b : length m ≡ memorySize (cart .kind)) (n : length m ≤ length scratch)
+    (e : _≡_ {A = Reply × List ℕ} (r, d') (exportReplied (step saveData (take (length m) scratch) (state cart m)))) where
+  abbrev d : List ℕ
+  d = take (length m) scratch
+
+  abbrev s : State
+  s = state cart m
+
+  y : eqb (length m) (memorySize (cart .kind)) ≡ true
+  y = eq-eqb _ _ b
+
+  k : length d ≡ length m
+  k = length-take-le (length m) scratch n
+
+  o : step saveData d s ≡ exported (fileOf (cart .kind) s) d s
+  o = export-accepted d s a y k
+
+  pub value-fits : r .value ≤ length d'
+  value-fits =
+      let h = file-fits (cart .kind) s d k in
+      let l : length d' ≡ length d = (λ i. length (e i .1)) ∙ ap (λ (x : Outcome). length (x .destination)) o ∙ length-exported (fileOf (cart .kind) s) d s h in
+      let v : r .value ≡ first (exported (fileOf (cart .kind) s) d s .given) = (λ i. e i .0 .value) ∙ ap (λ (x : Outcome). first (x .given)) o in
+      omega (arith, v, l, given-fits (fileOf (cart .kind) s) d s h)
+
+  -- what lies at the front of the scratch then is the file
+  pub reloads : (rest : List ℕ) (t : State) → loadedFrom (take (r .value) (d' ++ rest)) t ≡ reloaded (fileLeft s) t
+  reloads rest t =
+      ap (λ (f : List ℕ). loadedFrom f t) (take-append-le (r .value) d' rest value-fits)
+      ∙ (λ i. loadedFrom (take (e i .0 .value) (e i .1)) t)
+      ∙ ap (λ (x : Outcome). loadedFrom (kept x) t) o
+      ∙ reload-is (fileOf (cart .kind) s) d s t (file-long (cart .kind) s b)
+      ∙ ap (λ (f : Option (List ℕ)). reloaded f t) (sym (file-left s a y))
+
+pub bytes-are : (s : State) → recordAllowed (s .cart) ≡ true → orZeros (step chipState [] s .given) ≡ bytesLeft s
+unfolding chipBytes
+bytes-are s a = ap (λ (o : Outcome). orZeros (o .given)) (state-accepted s a) ∙ sym (bytes-left s a)

@@ -1,0 +1,54 @@
+use mathlib.Core.Path.{sym, ap₂, _∙_}
+use mathlib.Core.List.{List}
+use Prim.Native.Nat.{ℕ}
+use native.Mathlib.Omega.{arith}
+use lib.ListN.{length, drop, length-append}
+use lib.Seq.{length-take-le}
+use Rattle.cart.specs.Record.{State, fromBytes}
+use Rattle.cart.specs.Calls.{restore}
+use Rattle.cart.specs.Cut.{cut}
+use Rattle.cart.specs.Replies.{state}
+use Rattle.cut_call.proofs.Cuts.{value-fits, reloads, bytes-are}
+use borrow.Author.Needs.{needs}
+use Rattle.cut_call.proofs.cut.Statement.{statement}
+use Rattle.cut_call.proofs.cut.Tie as tie
+
+slice-aggregate-save-data : tie.Need-slice-aggregate-save-data
+slice-aggregate-save-data c = sym (length-take-le _ (c .before .before .before .before .before .args .scratch .now) (c .before .before .before .before .before .pre .1 .1))
+
+slice-reshare-prefix-resume : tie.Need-slice-reshare-prefix-resume
+slice-reshare-prefix-resume c = let a = c .before .before .before .before .before .before .before .before .before .before .before .before .args in
+    let v = value-fits (a .scratch .now) (c .before .before .before .before .before .before .save-data .last .1 .1 .0) (a .cart) (a .memory .now) (c .before .before .before .before .before .before .save-data .result) (c .before .before .before .before .before .before .before .before .before .before .before .before .pre .0) (c .before .before .before .before .before .before .before .before .before .before .before .before .pre .1 .0) (c .before .before .before .before .before .before .before .before .before .before .before .before .pre .1 .1) (c .before .before .before .before .before .before .save-data .ensures) in
+    omega (arith, v, length-append (c .before .before .before .before .before .before .save-data .last .1 .1 .0) (drop (length (a .memory .now)) (a .scratch .now)))
+
+slice-aggregate-resume : tie.Need-slice-aggregate-resume
+slice-aggregate-resume c = let a = c .before .before .before .before .before .before .before .before .before .before .before .before .before .args in
+    let d = c .before .before .before .before .before .before .before .save-data .last .1 .1 .0 in
+    let v = value-fits (a .scratch .now) d (a .cart) (a .memory .now) (c .before .before .before .before .before .before .before .save-data .result) (c .before .before .before .before .before .before .before .before .before .before .before .before .before .pre .0) (c .before .before .before .before .before .before .before .before .before .before .before .before .before .pre .1 .0) (c .before .before .before .before .before .before .before .before .before .before .before .before .before .pre .1 .1) (c .before .before .before .before .before .before .before .save-data .ensures) in
+    sym (length-take-le _ _ (omega (arith, v, length-append d (drop (length (a .memory .now)) (a .scratch .now)))))
+
+returns : tie.Need-returns
+unfolding cut
+returns c = let a = c .before .before .before .before .before .before .before .before .before .before .before .before .before .before .before .before .before .args in
+    let s = state (a .cart) (a .memory .now) in
+    let f = fromBytes (a .image .now) (a .memory .now) .next in
+    let k = c .before .before .before .before .before .before .before .chip-state .ensures (a .memory .now) in
+    c .before .before .resume .ensures
+    ∙ ap₂ (λ (b : List ℕ) (t : State). restore b t .next) ((λ i. k i .0 .bytes) ∙ bytes-are s (c .before .before .before .before .before .before .before .before .before .before .before .before .before .before .before .before .before .pre .0)) (reloads (a .scratch .now) (c .before .before .before .before .before .before .before .before .before .before .before .save-data .last .1 .1 .0) (a .cart) (a .memory .now) (c .before .before .before .before .before .before .before .before .before .before .before .save-data .result) (c .before .before .before .before .before .before .before .before .before .before .before .before .before .before .before .before .before .pre .0) (c .before .before .before .before .before .before .before .before .before .before .before .before .before .before .before .before .before .pre .1 .0) (c .before .before .before .before .before .before .before .before .before .before .before .before .before .before .before .before .before .pre .1 .1) (c .before .before .before .before .before .before .before .before .before .before .before .save-data .ensures) (drop (length (a .memory .now)) (a .scratch .now)) f)
+
+pub cut-spec : {M : Type 1} → statement M
+cut-spec =
+    tie.close
+    (tie.spec
+    (λ c. search needs)
+    slice-aggregate-save-data
+    (λ c κs. search needs)
+    (λ c. search needs)
+    (λ c κs. search needs)
+    slice-reshare-prefix-resume
+    slice-aggregate-resume
+    (λ c. search needs)
+    (λ c κs. search needs)
+    (λ c. search needs)
+    (λ c. search needs)
+    returns)

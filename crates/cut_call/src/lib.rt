@@ -1,0 +1,55 @@
+// A cut, by the real calls: export and `chip_state`; opening, load and restore.
+
+use cart::Cartridge;
+use file_calls::load_save;
+use file_calls::save_data;
+use state_calls::chip_state;
+use state_calls::from_bytes;
+use state_calls::restore_chip_state;
+ghost use mathlib.Core.Path.{_≡_};
+ghost use mathlib.Core.Bool.{true};
+ghost use Prim.Native.Nat.{_≤_};
+ghost use lib.ListN.{length};
+ghost use Rattle.kind.specs.Kind.{memorySize};
+ghost use Rattle.cart.specs.Record.{recordAllowed, fromBytes};
+ghost use Rattle.cart.specs.Calls.{restore};
+ghost use Rattle.cart.specs.Cut.{cut as cut·spec};
+ghost use Rattle.cart.specs.Replies.{state};
+ghost use Rattle.cut_call.specs.Loads.{loadedFrom};
+
+// No file has no bytes.
+fn load_where_there_is_one(cart: Cartridge, memory: &mut [u8], file: &[u8]) -> Cartridge
+    ensures { λ r. ⌜ state r (now (memory .exit)) ≡ loadedFrom (now (file .entry)) (state cart (now (memory .entry))) ⌝ }
+{
+    if file.len() == 0 {
+        return cart;
+    }
+    let loaded = load_save(cart, memory, file);
+    loaded.cart
+}
+
+// The same image opened, the file loaded, the 18 bytes restored.
+fn resume(image: &[u8], memory: &mut [u8], file: &[u8], bytes: &[u8]) -> Cartridge
+    ensures { λ r. ⌜ state r (now (memory .exit)) ≡ restore (now (bytes .entry)) (loadedFrom (now (file .entry)) (fromBytes (now (image .entry)) (now (memory .entry)) .next)) .next ⌝ }
+{
+    let opened = from_bytes(image, memory);
+    let fresh = opened.cart;
+    let loaded = load_where_there_is_one(fresh, memory, file);
+    let restored = restore_chip_state(loaded, bytes);
+    restored.cart
+}
+
+// The scratch keeps the file from the one cartridge to the other.
+pub fn cut(image: &[u8], cart: Cartridge, memory: &mut [u8], scratch: &mut [u8]) -> Cartridge
+    requires { ⌜ recordAllowed cart ≡ true ⌝ }
+    requires { ⌜ length (now memory) ≡ memorySize (cart .kind) ⌝ }
+    requires { ⌜ length (now memory) ≤ length (now scratch) ⌝ }
+    ensures { λ r. ⌜ state r (now (memory .exit)) ≡ cut·spec (now (image .entry)) (now (memory .entry)) (state cart (now (memory .entry))) ⌝ }
+{
+    let n = memory.len();
+    let exported = save_data(cart, memory, &mut scratch[..n]);
+    let len = exported.value as usize;
+    let kept = chip_state(cart);
+    let bytes = kept.bytes;
+    resume(image, memory, &scratch[..len], &bytes)
+}

@@ -1,0 +1,46 @@
+-- What a call returned, as the bytes of its answer. Assumes nothing.
+use mathlib.Core.Path.{_≡_, refl, sym, ap, _∙_}
+use mathlib.Core.List.{List, [], _∷_}
+use Prim.Native.Nat.{ℕ, _%_}
+use native.Mathlib.Omega.{arith}
+use lib.Dec.{eqb}
+use lib.ListN.{length}
+use mathlib.Core.Option.{Option, none, some}
+use Rattle.lists.specs.Questions.{asked}
+use Rattle.lists.proofs.Bools.{either}
+use Rattle.cart.specs.declared.Cartridge.{Cartridge}
+use Rattle.cart.specs.declared.Reply.{Reply}
+use Rattle.cart.specs.Record.{State, Outcome}
+use Rattle.cart.specs.Calls.{saveData, fileOf, exported, questions, accepted, step}
+use Rattle.cart.specs.Replies.{state, replied}
+use Rattle.state_calls.specs.declared.StateAnswer.{StateAnswer}
+use Rattle.state_calls.specs.StateAnswer.{stateAnswered}
+use Rattle.replay.specs.Replay.{valueOf, stateOf, left, statusShown, valueShown}
+
+pub shows-status : {reply q : Reply} {m n out : List ℕ} {r : Cartridge} → _≡_ {A = Reply × List ℕ} (reply, m) (q, n)
+    → _≡_ {A = Cartridge × List ℕ} (r, out) (statusShown reply)
+    → _≡_ {A = State × List ℕ} (state r m, out) (state (q .cart) n, q .refusal ∷ [])
+shows-status {m = m} e h = (λ i. (state (h i .0) m, h i .1)) ∙ (λ i. (state (e i .0 .cart) (e i .1), e i .0 .refusal ∷ []))
+
+pub shows-value : (o : Outcome) {reply : Reply} {m out : List ℕ} {r : Cartridge} → _≡_ {A = Reply × List ℕ} (reply, m) (replied o)
+    → _≡_ {A = Cartridge × List ℕ} (r, out) (valueShown reply)
+    → _≡_ {A = State × List ℕ} (state r m, out) (left (valueOf o))
+shows-value o {m = m} e h = (λ i. (state (h i .0) m, h i .1)) ∙ (λ i. (state (e i .0 .cart) (e i .1), e i .0 .refusal ∷ e i .0 .value % 256 ∷ []))
+
+pub shows-state : (o : Outcome) {a : StateAnswer} {s : State} {out : List ℕ} → _≡_ {A = StateAnswer × State} (a, s) (stateAnswered o)
+    → out ≡ a .refusal ∷ a .bytes
+    → _≡_ {A = State × List ℕ} (s, out) (left (stateOf o))
+shows-state o {s = s} e h = (λ i. (s, h i)) ∙ (λ i. (e i .1, e i .0 .refusal ∷ e i .0 .bytes))
+
+-- an export leaves the state
+exported-next : (f : Option (List ℕ)) (d : List ℕ) (s : State) → exported f d s .next ≡ s
+exported-next none d s = refl
+exported-next (some f) d s = refl
+
+pub export-next : (d : List ℕ) (s : State) → step saveData d s .next ≡ s
+unfolding step accepted
+export-next d s = either (λ (o : Outcome). o .next ≡ s) (eqb (asked (questions saveData d s)) 0) (exported-next (fileOf (s .cart .kind) s) d s) refl
+
+pub nothing : (l : List ℕ) → length l ≡ 0 → l ≡ []
+nothing [] e = refl
+nothing (b ∷ l) e = absurd (omega arith)

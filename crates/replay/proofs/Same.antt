@@ -1,0 +1,100 @@
+-- Where a cut falls, the machine that is cut goes on as the one that is not. Assumes nothing.
+use mathlib.Core.Path.{_≡_, refl, sym, ap, _∙_}
+use mathlib.Core.Bool.{Bool, true, false, _&&_}
+use mathlib.Core.List.{List, [], _++_}
+use Prim.Native.Nat.{ℕ}
+use lib.Dec.{eqb}
+use lib.ListN.{length, take, drop, replicate}
+use borrow.Author.Tests.{eq-eqb}
+use Rattle.lists.specs.Questions.{asked}
+use Rattle.image.specs.Image.{imageLength}
+use Rattle.kind.specs.declared.SaveType.{SaveType}
+use Rattle.kind.specs.Kind.{memorySize, usesEeprom, detectSaveType}
+use Rattle.cart.specs.Record.{State, Outcome, openQuestions, fromBytes, outcome, fresh, freshCart}
+use Rattle.cart.specs.Calls.{Call, saveRead, saveWrite, eepromBeginDma, eepromWrite, eepromRead, loadSave, saveData, chipState, takeSaveDirty, step}
+use Rattle.cart.specs.Cut.{cut}
+use Rattle.cart.proofs.Recoverable.{Recoverable, NoByteWrite, recoverable-step}
+use Rattle.cart.proofs.CutRuns.{quiet, cut-quiet, unflagged, step-same}
+use Rattle.call_list.specs.declared.Item.{Item}
+use Rattle.call_list.specs.declared.Item.the-variants.{SaveRead, SaveWrite, EepromRead, EepromWrite, BeginDma, TakeFlag, ChipState, LoadSave, SaveData, Cut, Bad}
+use Rattle.call_list.specs.Items.{isWrite}
+use Rattle.replay.specs.Replay.{Answered, statusOf, valueOf, stateOf, fileOf, play, notCut, cutAt, ending}
+
+-- the image of a state that is recoverable opens again
+open-yes : (image : List ℕ) (s : State) → Recoverable image s → asked (openQuestions image (s .memory)) ≡ 0
+open-yes image s r =
+    let l : imageLength (length image) ≡ true = rw (sym (r .lenIs)) (r .sound .lenOk) in
+    let m : eqb (length (s .memory)) (memorySize (detectSaveType image)) ≡ true = eq-eqb _ _ (r .sound .memoryOk ∙ ap memorySize (r .kindIs)) in
+    rw (l, m)
+
+opens : (image : List ℕ) (s : State) → Recoverable image s → fromBytes image (s .memory) .refusal ≡ 0
+unfolding fromBytes
+opens image s r = rw (open-yes image s r)
+
+-- a state and the same without its flag are recoverable alike
+pub recoverable-quiet : (image : List ℕ) (s : State) → Recoverable image s → Recoverable image (quiet s)
+recoverable-quiet image s r =
+    record {
+      sound = record { lenOk = r .sound .lenOk; memoryOk = r .sound .memoryOk; flashOk = r .sound .flashOk; eepromOk = r .sound .eepromOk };
+      lenIs = r .lenIs;
+      kindIs = r .kindIs;
+      tail = r .tail;
+    }
+
+-- which calls are byte writes
+abbrev isByteWrite : Call → Bool
+isByteWrite (saveRead a) = false
+isByteWrite (saveWrite a v) = true
+isByteWrite (eepromBeginDma words) = false
+isByteWrite (eepromWrite v) = false
+isByteWrite eepromRead = false
+isByteWrite (loadSave f) = false
+isByteWrite saveData = false
+isByteWrite chipState = false
+isByteWrite takeSaveDirty = false
+
+no-write : (kind : SaveType) (c : Call) → isByteWrite c && usesEeprom kind ≡ false → NoByteWrite kind c
+no-write kind c h = λ a v p. let w : isByteWrite c ≡ true = ap isByteWrite (sym p) in rw w at h
+
+-- s is cut, t is not: what they answer and how they go on
+record Alike (image : List ℕ) (p q : Answered) : Type 0 where
+  pub bytesSame : p .bytes ≡ q .bytes
+  pub stillSame : quiet (p .next) ≡ quiet (q .next)
+  pub stillStands : Recoverable image (p .next)
+
+module _ (image : List ℕ) (s t : State) (e : quiet s ≡ quiet t) (r : Recoverable image s) where
+  -- a call, of whose outcome f shows nothing of the flag
+  called : (f : Outcome → List ℕ) (c : Call) (d : List ℕ) → isByteWrite c && usesEeprom (detectSaveType image) ≡ false
+      → ((o : Outcome) → f (unflagged o) ≡ f o)
+      → (f (step c d s) ≡ f (step c d t)) × ((quiet (step c d s .next) ≡ quiet (step c d t .next)) × Recoverable image (step c d s .next))
+  called f c d w u =
+      let o : unflagged (step c d s) ≡ unflagged (step c d t) = step-same c d s t e in
+      (sym (u (step c d s)) ∙ ap f o ∙ u (step c d t), (ap (λ (x : Outcome). x .next) o, recoverable-step image c d s (no-write (detectSaveType image) c w) r))
+
+  abbrev alike : {p q : Answered} → (p .bytes ≡ q .bytes) × ((quiet (p .next) ≡ quiet (q .next)) × Recoverable image (p .next)) → Alike image p q
+  alike x = record { bytesSame = x .0; stillSame = x .1 .0; stillStands = x .1 .1 }
+
+  pub plays-same : (i : Item) (l : List ℕ) → isWrite i && usesEeprom (detectSaveType image) ≡ false → Alike image (play (cutAt image) i l s) (play notCut i l t)
+  unfolding play
+  plays-same (SaveRead a) l w = alike (called (λ o. valueOf o .bytes) (saveRead a) [] refl (λ o. refl))
+  plays-same (SaveWrite a v) l w = alike (called (λ o. statusOf o .bytes) (saveWrite a v) [] w (λ o. refl))
+  plays-same EepromRead l w = alike (called (λ o. valueOf o .bytes) eepromRead [] refl (λ o. refl))
+  plays-same (EepromWrite v) l w = alike (called (λ o. statusOf o .bytes) (eepromWrite v) [] refl (λ o. refl))
+  plays-same (BeginDma words) l w = alike (called (λ o. statusOf o .bytes) (eepromBeginDma words) [] refl (λ o. refl))
+  plays-same TakeFlag l w = alike (called (λ o. statusOf o .bytes) takeSaveDirty [] refl (λ o. refl))
+  plays-same ChipState l w = alike (called (λ o. stateOf o .bytes) chipState [] refl (λ o. refl))
+  plays-same (LoadSave n) l w = alike (called (λ o. statusOf o .bytes) (loadSave (take n (drop 5 l))) [] refl (λ o. refl))
+  plays-same (SaveData n) l w = alike (called (λ o. fileOf o .bytes) saveData (replicate n 0) refl (λ o. refl))
+  plays-same Cut l w =
+      let q : cut image (s .memory) s ≡ quiet s = cut-quiet image (s .memory) s (opens image s r) r in
+      record { bytesSame = refl; stillSame = ap quiet q ∙ e; stillStands = rw q (recoverable-quiet image s r) }
+  plays-same Bad l w = record { bytesSame = refl; stillSame = e; stillStands = r }
+
+  pub ends-same : ending s ≡ ending t
+  unfolding ending
+  ends-same =
+      let n : length (s .memory) ≡ length (t .memory) = ap (λ (x : State). length (x .memory)) e in
+      let f : (fileOf (step saveData (replicate (length (s .memory)) 0) s) .bytes) ≡ (fileOf (step saveData (replicate (length (s .memory)) 0) t) .bytes) =
+      called (λ o. fileOf o .bytes) saveData (replicate (length (s .memory)) 0) refl (λ o. refl) .0 in
+      let g = called (λ o. stateOf o .bytes) chipState [] refl (λ o. refl) .0 in
+      (λ i. f i ++ g i) ∙ ap (λ (k : ℕ). fileOf (step saveData (replicate k 0) t) .bytes ++ stateOf (step chipState [] t) .bytes) n

@@ -1,0 +1,53 @@
+// What a call answers, as bytes. The output that is lent is as long as the answer.
+use cart::Cartridge;
+use cart::Reply;
+use file_calls::save_data;
+use lists::copy;
+use lists::fill;
+use state_calls::StateAnswer;
+ghost use mathlib.Core.Path.{_≡_};
+ghost use mathlib.Core.List.{[], _∷_};
+ghost use Prim.Native.Nat.{_-_, _%_, _≤_};
+ghost use lib.ListN.{length, replicate};
+ghost use Rattle.cart.specs.Calls.{saveData, step};
+ghost use Rattle.cart.specs.Replies.{state};
+ghost use Rattle.replay.specs.Replay.{fileOf};
+
+pub fn put_status(out: &mut [u8], refusal: u8)
+    requires { ⌜ length (now out) ≡ 1 ⌝ }
+    ensures { λ _. ⌜ now (out .exit) ≡ refusal ∷ [] ⌝ }
+{
+    out[0] = refusal;
+}
+
+pub fn put_value(out: &mut [u8], reply: Reply)
+    requires { ⌜ length (now out) ≡ 2 ⌝ }
+    ensures { λ _. ⌜ now (out .exit) ≡ reply .refusal ∷ reply .value % 256 ∷ [] ⌝ }
+{
+    out[0] = reply.refusal;
+    out[1] = (reply.value % 256) as u8;
+}
+
+pub fn put_state(out: &mut [u8], state: StateAnswer)
+    requires { ⌜ length (now out) ≡ 19 ⌝ }
+    requires { ⌜ length (state .bytes) ≡ 18 ⌝ }
+    ensures { λ _. ⌜ now (out .exit) ≡ state .refusal ∷ state .bytes ⌝ }
+{
+    let bytes = state.bytes;
+    out[0] = state.refusal;
+    copy(&mut out[1..], &bytes);
+}
+
+// The destination is what is lent behind five bytes.
+pub fn put_file(cart: Cartridge, memory: &[u8], out: &mut [u8])
+    requires { ⌜ 5 ≤ length (now out) ⌝ }
+    ensures { λ _. ⌜ now (out .exit) ≡ fileOf (step saveData (replicate (length (now (out .entry)) - 5) 0) (state cart (now (memory .entry)))) .bytes ⌝ }
+{
+    fill(&mut out[5..], 0);
+    let exported = save_data(cart, memory, &mut out[5..]);
+    out[0] = exported.refusal;
+    out[1] = (exported.value / 16777216 % 256) as u8;
+    out[2] = (exported.value / 65536 % 256) as u8;
+    out[3] = (exported.value / 256 % 256) as u8;
+    out[4] = (exported.value % 256) as u8;
+}

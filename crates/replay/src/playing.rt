@@ -1,0 +1,86 @@
+// An item as the call that it is.
+use crate::answers::put_file;
+use crate::answers::put_state;
+use crate::answers::put_status;
+use crate::answers::put_value;
+use byte_calls::save_read;
+use byte_calls::save_write;
+use call_list::Item;
+use cart::Cartridge;
+use cart::Reply;
+use cut_call::cut;
+use file_calls::load_save;
+use serial_calls::eeprom_begin_dma;
+use serial_calls::eeprom_read;
+use serial_calls::eeprom_write;
+use state_calls::chip_state;
+use state_calls::take_save_dirty;
+ghost use mathlib.Core.Path.{_≡_};
+ghost use mathlib.Core.Bool.{true};
+ghost use Prim.Native.Nat.{_≤_};
+ghost use lib.ListN.{length};
+ghost use Rattle.kind.specs.Kind.{memorySize};
+ghost use Rattle.cart.specs.Record.{recordAllowed};
+ghost use Rattle.cart.specs.Replies.{state};
+ghost use Rattle.call_list.specs.Items.{itemLength, itemRoom};
+ghost use Rattle.replay.specs.Replay.{statusShown, valueShown, play as play·spec, left, cutAt};
+
+fn show_status(reply: Reply, out: &mut [u8]) -> Cartridge
+    requires { ⌜ length (now out) ≡ 1 ⌝ }
+    ensures { λ r. ⌜ (r, now (out .exit)) ≡ statusShown reply ⌝ }
+{
+    put_status(out, reply.refusal);
+    reply.cart
+}
+
+fn show_value(reply: Reply, out: &mut [u8]) -> Cartridge
+    requires { ⌜ length (now out) ≡ 2 ⌝ }
+    ensures { λ r. ⌜ (r, now (out .exit)) ≡ valueShown reply ⌝ }
+{
+    put_value(out, reply);
+    reply.cart
+}
+
+// The bytes of the item begin the list.
+pub fn play(
+    item: Item,
+    list: &[u8],
+    image: &[u8],
+    cart: Cartridge,
+    memory: &mut [u8],
+    scratch: &mut [u8],
+    out: &mut [u8],
+) -> Cartridge
+    requires { ⌜ itemLength item ≤ length (now list) ⌝ }
+    requires { ⌜ length (now out) ≡ itemRoom item ⌝ }
+    requires { ⌜ recordAllowed cart ≡ true ⌝ }
+    requires { ⌜ length (now memory) ≡ memorySize (cart .kind) ⌝ }
+    requires { ⌜ length (now memory) ≤ length (now scratch) ⌝ }
+    ensures { λ r. ⌜ (state r (now (memory .exit)), now (out .exit)) ≡ left (play·spec (cutAt (now (image .entry))) item (now (list .entry)) (state cart (now (memory .entry)))) ⌝ }
+{
+    match item {
+        Item::SaveRead(address) => show_value(save_read(cart, memory, address), out),
+        Item::SaveWrite(address, value) => show_status(
+            save_write(cart, memory, address, value),
+            out,
+        ),
+        Item::EepromRead => show_value(eeprom_read(cart, memory), out),
+        Item::EepromWrite(value) => show_status(eeprom_write(cart, memory, value), out),
+        Item::BeginDma(words) => show_status(eeprom_begin_dma(cart, words as usize), out),
+        Item::TakeFlag => show_status(take_save_dirty(cart), out),
+        Item::ChipState => {
+            put_state(out, chip_state(cart));
+            cart
+        }
+        Item::LoadSave(n) => {
+            let end = 5 + n;
+            show_status(load_save(cart, memory, &list[5..end]), out)
+        }
+        Item::SaveData(_) => {
+            put_file(cart, memory, out);
+            cart
+        }
+        Item::Cut => cut(image, cart, memory, scratch),
+        Item::Bad => cart,
+    }
+}

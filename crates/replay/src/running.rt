@@ -1,0 +1,112 @@
+// The list, item by item.
+use crate::answers::put_file;
+use crate::answers::put_state;
+use crate::playing::play;
+use call_list::ask_list;
+use call_list::item_in;
+use call_list::item_length;
+use call_list::item_room;
+use cart::Cartridge;
+use image::image_length;
+use kind::detect_save_type;
+use kind::memory_size;
+use kind::uses_eeprom;
+use lists::fill;
+use state_calls::chip_state;
+use state_calls::from_bytes;
+ghost use mathlib.Core.Path.{_≡_};
+ghost use mathlib.Core.Bool.{true, false, _&&_};
+ghost use Prim.Native.Nat.{_+_, _≤_};
+ghost use lib.ListN.{length};
+ghost use Rattle.lists.specs.Lists.{into};
+ghost use Rattle.lists.specs.Questions.{asked};
+ghost use Rattle.kind.specs.Kind.{usesEeprom, detectSaveType};
+ghost use Rattle.cart.specs.Record.{openQuestions, fresh as fresh·spec};
+ghost use Rattle.cart.specs.Replies.{state};
+ghost use Rattle.call_list.specs.Items.{items, good, byteWrites, room};
+ghost use Rattle.call_list.specs.ListQuestions.{endingRoom};
+ghost use Rattle.replay.specs.Replay.{ending, uncutRun, shownBy, replayQuestions, replay};
+
+// The number of the first question that is answered no, or 0.
+fn ask(image: &[u8], list: &[u8], memory: &[u8], scratch: usize, out: usize) -> u8
+    ensures { λ r. ⌜ r ≡ asked (replayQuestions (now (image .entry)) (now (list .entry)) (now (memory .entry)) scratch out) ⌝ }
+{
+    if !image_length(image.len()) {
+        return 1;
+    }
+    let kind = detect_save_type(image);
+    if memory.len() != memory_size(kind) {
+        return 3;
+    }
+    ask_list(list, uses_eeprom(kind), memory.len(), scratch, out)
+}
+
+// What is answered behind the last item.
+fn end_with(cart: Cartridge, memory: &[u8], out: &mut [u8])
+    requires { ⌜ length (now out) ≡ endingRoom (length (now memory)) ⌝ }
+    ensures { λ _. ⌜ now (out .exit) ≡ ending (state cart (now (memory .entry))) ⌝ }
+{
+    let middle = 5 + memory.len();
+    put_file(cart, memory, &mut out[..middle]);
+    put_state(&mut out[middle..], chip_state(cart));
+}
+
+fn run(
+    image: &[u8],
+    list: &[u8],
+    fresh: Cartridge,
+    memory: &mut [u8],
+    scratch: &mut [u8],
+    out: &mut [u8],
+)
+    requires { ⌜ asked (openQuestions (now image) (now memory)) ≡ 0 ⌝ }
+    requires { ⌜ state fresh (now memory) ≡ fresh·spec (now image) ⌝ }
+    requires { ⌜ good (items 0 (now list)) ≡ true ⌝ }
+    requires { ⌜ (byteWrites (items 0 (now list)) && usesEeprom (detectSaveType (now image))) ≡ false ⌝ }
+    requires { ⌜ length (now memory) ≤ length (now scratch) ⌝ }
+    requires { ⌜ room (items 0 (now list)) + endingRoom (length (now memory)) ≤ length (now out) ⌝ }
+    ensures { λ _. ⌜ (now (memory .exit), now (out .exit)) ≡ shownBy (uncutRun (items 0 (now (list .entry))) (fresh·spec (now (image .entry)))) (now (out .entry)) ⌝ }
+{
+    let mut cart = fresh;
+    let mut at = 0;
+    let mut i = 0;
+    while i < list.len() {
+        let item = item_in(&list[i..]);
+        let end = at + item_room(item);
+        cart = play(
+            item,
+            &list[i..],
+            image,
+            cart,
+            memory,
+            scratch,
+            &mut out[at..end],
+        );
+        at = end;
+        i += item_length(item);
+    }
+    let end = at + 24 + memory.len();
+    end_with(cart, memory, &mut out[at..end]);
+}
+
+// Answers 0 or a refusal; refused, nothing is changed.
+#[no_mangle]
+pub extern "C" fn gbasave_replay(
+    image: &[u8],
+    list: &[u8],
+    memory: &mut [u8],
+    scratch: &mut [u8],
+    out: &mut [u8],
+) -> u32
+    ensures { λ r. ⌜ (r, now (memory .exit), now (scratch .exit), now (out .exit)) ≡ replay (now (image .entry)) (now (list .entry)) (now (memory .entry)) (now (scratch .entry)) (now (out .entry)) ⌝ }
+{
+    let refusal = ask(image, list, memory, scratch.len(), out.len());
+    if refusal != 0 {
+        return refusal as u32;
+    }
+    let opened = from_bytes(image, memory);
+    let cart = opened.cart;
+    run(image, list, cart, memory, scratch, out);
+    fill(scratch, 0);
+    0
+}
