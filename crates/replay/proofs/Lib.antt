@@ -1,3 +1,4 @@
-pub mod Answers
+pub mod Pieces
+pub mod Shown
 pub mod Same
 pub mod Runs

@@ -57,7 +57,7 @@ no-write : (kind : SaveType) (c : Call) → isByteWrite c && usesEeprom kind ≡
 no-write kind c h = λ a v p. let w : isByteWrite c ≡ true = ap isByteWrite (sym p) in rw w at h
 
 -- s is cut, t is not: what they answer and how they go on
-record Alike (image : List ℕ) (p q : Answered) : Type 0 where
+pub record Alike (image : List ℕ) (p q : Answered) : Type 0 where
   pub bytesSame : p .bytes ≡ q .bytes
   pub stillSame : quiet (p .next) ≡ quiet (q .next)
   pub stillStands : Recoverable image (p .next)

@@ -10,8 +10,8 @@ ghost use mathlib.Core.List.{[], _∷_};
 ghost use Prim.Native.Nat.{_-_, _%_, _≤_};
 ghost use lib.ListN.{length, replicate};
 ghost use Rattle.cart.specs.Calls.{saveData, step};
-ghost use Rattle.cart.specs.Replies.{state};
-ghost use Rattle.replay.specs.Replay.{fileOf};
+ghost use Rattle.cart.specs.Replies.{state, exportReplied};
+ghost use Rattle.replay.specs.Replay.{fourBytes, fileOf};
 
 pub fn put_status(out: &mut [u8], refusal: u8)
     requires { ⌜ length (now out) ≡ 1 ⌝ }
@@ -38,16 +38,31 @@ pub fn put_state(out: &mut [u8], state: StateAnswer)
     copy(&mut out[1..], &bytes);
 }
 
+// An export into zeros.
+fn export_into(cart: Cartridge, memory: &[u8], destination: &mut [u8]) -> Reply
+    ensures { λ r. ⌜ (r, now (destination .exit)) ≡ exportReplied (step saveData (replicate (length (now (destination .entry))) 0) (state cart (now (memory .entry)))) ⌝ }
+{
+    fill(destination, 0);
+    save_data(cart, memory, destination)
+}
+
+fn put_length(out: &mut [u8], reply: Reply)
+    requires { ⌜ length (now out) ≡ 5 ⌝ }
+    ensures { λ _. ⌜ now (out .exit) ≡ reply .refusal ∷ fourBytes (reply .value) ⌝ }
+{
+    out[0] = reply.refusal;
+    out[1] = (reply.value / 16777216 % 256) as u8;
+    out[2] = (reply.value / 65536 % 256) as u8;
+    out[3] = (reply.value / 256 % 256) as u8;
+    out[4] = (reply.value % 256) as u8;
+}
+
 // The destination is what is lent behind five bytes.
 pub fn put_file(cart: Cartridge, memory: &[u8], out: &mut [u8])
     requires { ⌜ 5 ≤ length (now out) ⌝ }
     ensures { λ _. ⌜ now (out .exit) ≡ fileOf (step saveData (replicate (length (now (out .entry)) - 5) 0) (state cart (now (memory .entry)))) .bytes ⌝ }
+    ensures { λ _. ⌜ length (now (out .exit)) ≡ length (now (out .entry)) ⌝ }
 {
-    fill(&mut out[5..], 0);
-    let exported = save_data(cart, memory, &mut out[5..]);
-    out[0] = exported.refusal;
-    out[1] = (exported.value / 16777216 % 256) as u8;
-    out[2] = (exported.value / 65536 % 256) as u8;
-    out[3] = (exported.value / 256 % 256) as u8;
-    out[4] = (exported.value % 256) as u8;
+    let exported = export_into(cart, memory, &mut out[5..]);
+    put_length(&mut out[..5], exported);
 }

@@ -1,13 +1,16 @@
 -- What a call returned, as the bytes of its answer. Assumes nothing.
 use mathlib.Core.Path.{_≡_, refl, sym, ap, _∙_}
 use mathlib.Core.List.{List, [], _∷_}
-use Prim.Native.Nat.{ℕ, _%_}
+use Prim.Native.Nat.{ℕ, _+_, _-_, _%_, _≤_}
 use native.Mathlib.Omega.{arith}
 use lib.Dec.{eqb}
-use lib.ListN.{length}
+use lib.ListN.{length, take, drop}
 use mathlib.Core.Option.{Option, none, some}
 use Rattle.lists.specs.Questions.{asked}
 use Rattle.lists.proofs.Bools.{either}
+use Rattle.kind.specs.declared.SaveType.{SaveType}
+use Rattle.kind.specs.declared.SaveType.the-variants.{None, Sram, Flash64, Flash128, Eeprom512, Eeprom8k}
+use Rattle.kind.specs.Kind.{memorySize}
 use Rattle.cart.specs.declared.Cartridge.{Cartridge}
 use Rattle.cart.specs.declared.Reply.{Reply}
 use Rattle.cart.specs.Record.{State, Outcome}
@@ -15,6 +18,9 @@ use Rattle.cart.specs.Calls.{saveData, fileOf, exported, questions, accepted, s
 use Rattle.cart.specs.Replies.{state, replied}
 use Rattle.state_calls.specs.declared.StateAnswer.{StateAnswer}
 use Rattle.state_calls.specs.StateAnswer.{stateAnswered}
+use Rattle.call_list.specs.declared.Item.{Item}
+use Rattle.call_list.specs.declared.Item.the-variants.{LoadSave, SaveData}
+use Rattle.call_list.specs.Items.{itemLength, itemRoom}
 use Rattle.replay.specs.Replay.{valueOf, stateOf, left, statusShown, valueShown}
 
 pub shows-status : {reply q : Reply} {m n out : List ℕ} {r : Cartridge} → _≡_ {A = Reply × List ℕ} (reply, m) (q, n)
@@ -44,3 +50,23 @@ export-next d s = either (λ (o : Outcome). o .next ≡ s) (eqb (asked (question
 pub nothing : (l : List ℕ) → length l ≡ 0 → l ≡ []
 nothing [] e = refl
 nothing (b ∷ l) e = absurd (omega arith)
+
+-- no save memory has more bytes than Flash128's
+pub size-small : (kind : SaveType) → memorySize kind ≤ 131072
+size-small None = omega arith
+size-small Sram = omega arith
+size-small Flash64 = omega arith
+size-small Flash128 = omega arith
+size-small Eeprom512 = omega arith
+size-small Eeprom8k = omega arith
+
+-- a load's file ends within the list
+pub load-ends : (i : Item) (n k : ℕ) → i ≡ LoadSave n → itemLength i ≤ k → 5 + n ≤ k
+load-ends i n k e h = rw e at h
+
+pub loaded-part : (n : ℕ) (l : List ℕ) → take (5 + n - 5) (drop 5 l) ≡ take n (drop 5 l)
+loaded-part n l = let e : 5 + n - 5 ≡ n = omega arith in rw e
+
+-- an export's destination is as long as the item says
+pub file-room : (i : Item) (n k : ℕ) → i ≡ SaveData n → k ≡ itemRoom i → k - 5 ≡ n
+file-room i n k e h = let r : itemRoom i ≡ 5 + n = ap itemRoom e in omega arith

@@ -1,0 +1,147 @@
+-- The loop over a list: what holds before each item. Assumes nothing.
+use mathlib.Core.Path.{_≡_, refl, sym, ap, subst, _∙_}
+use mathlib.Core.Bool.{Bool, true, false, cond, _&&_, _||_}
+use mathlib.Core.List.{List, [], _∷_, _++_, append-nil, append-assoc}
+use Prim.Native.Nat.{ℕ, _+_, _-_, _≤_, _<_}
+use native.Mathlib.Omega.{arith}
+use lib.ListN.{length, take, drop, length-append, length-drop}
+use lib.Seq.{drop-length}
+use Rattle.lists.specs.Lists.{into}
+use Rattle.lists.proofs.Parts.{into-more, length-into}
+use Rattle.kind.specs.Kind.{memorySize, usesEeprom, detectSaveType}
+use Rattle.cart.specs.declared.Cartridge.{Cartridge}
+use Rattle.cart.specs.Record.{State, fresh, recordAllowed}
+use Rattle.cart.specs.Replies.{state}
+use Rattle.cart.proofs.Sound.{record-allowed}
+use Rattle.cart.proofs.Recoverable.{Recoverable}
+use Rattle.cart.proofs.CutRuns.{quiet}
+use Rattle.call_list.specs.declared.Item.{Item}
+use Rattle.call_list.specs.Items.{Place, itemIn, itemLength, itemRoom, items, isItem, isWrite, good, byteWrites, room}
+use Rattle.call_list.specs.ListQuestions.{endingRoom}
+use Rattle.call_list.proofs.Places.{next-item, item-fits}
+use Rattle.replay.specs.Replay.{Answered, answered, play, playAll, ending, notCut, cutAt, shownBy, uncutRun, left}
+use Rattle.replay.proofs.Same.{plays-same, ends-same}
+
+-- the items from byte i on
+abbrev pub itemsFrom : ℕ → List ℕ → List Place
+itemsFrom i list = items 0 (drop i list)
+
+-- what was answered before, and what comes behind it
+abbrev behind : List ℕ → Answered → Answered
+behind front a = answered (front ++ a .bytes) (a .next)
+
+-- front: the answers of the items before byte i; uncut: where the machine stands that is not cut
+pub record Ran (image list m₀ scratch₀ out₀ m scratch out : List ℕ) (cart : Cartridge) (at i : ℕ) : Type 0 where
+  pub front : List ℕ
+  pub uncut : State
+  pub placeOk : i ≤ length list
+  pub atIs : at ≡ length front
+  pub roomOk : at + room (itemsFrom i list) + endingRoom (length m) ≤ length out₀
+  pub outIs : out ≡ into front out₀
+  pub memoryOk : length m ≡ length m₀
+  pub scratchOk : length scratch ≡ length scratch₀
+  pub writesOk : byteWrites (itemsFrom i list) && usesEeprom (detectSaveType image) ≡ false
+  pub stands : Recoverable image (state cart m)
+  pub same : quiet (state cart m) ≡ quiet uncut
+  pub wholeIs : playAll notCut (items 0 list) (fresh image) ≡ behind front (playAll notCut (itemsFrom i list) uncut)
+
+pub ran-start : (image list m scratch out : List ℕ) (cart : Cartridge) → state cart m ≡ fresh image → Recoverable image (fresh image)
+    → byteWrites (items 0 list) && usesEeprom (detectSaveType image) ≡ false → room (items 0 list) + endingRoom (length m) ≤ length out
+    → Ran image list m scratch out m scratch out cart 0 0
+unfolding into
+ran-start image list m scratch out cart e r w h =
+    record {
+      front = [];
+      uncut = fresh image;
+      placeOk = omega arith;
+      atIs = refl;
+      roomOk = omega (arith, h);
+      outIs = refl;
+      memoryOk = refl;
+      scratchOk = refl;
+      writesOk = w;
+      stands = rw e r;
+      same = ap quiet e;
+      wholeIs = refl;
+    }
+
+-- an answer that is put behind those before it
+put-piece : (front o out₀ out : List ℕ) (at n : ℕ) → at ≡ length front → at ≤ length out₀ → out ≡ into front out₀ → length o ≡ n
+    → take at out ++ (o ++ drop n (drop at out)) ≡ into (front ++ o) out₀
+unfolding into
+put-piece front o out₀ out at n l k e z = rw (sym z, e) (unfold into in into-more front o out₀ at l k)
+
+both-false : (a b e : Bool) → (a || b) && e ≡ false → (a && e ≡ false) × (b && e ≡ false)
+both-false true true e h = (h, h)
+both-false true false e h = (h, refl)
+both-false false b e h = (refl, h)
+
+writes-more : (p : Place) (list : List Place) (e : Bool) → byteWrites (p ∷ list) && e ≡ false → (isWrite (p .item) || byteWrites list) && e ≡ false
+unfolding byteWrites
+writes-more p list e h = h
+
+room-more : (p : Place) (list : List Place) → room (p ∷ list) ≡ itemRoom (p .item) + room list
+unfolding room
+room-more p list = refl
+
+played-more : (front : List ℕ) (p : Place) (list : List Place) (t : State) → let q = play notCut (p .item) (p .bytes) t in
+    behind front (playAll notCut (p ∷ list) t) ≡ behind (front ++ q .bytes) (playAll notCut list (q .next))
+unfolding playAll
+played-more front p list t =
+    let q = play notCut (p .item) (p .bytes) t in
+    let a = playAll notCut list (q .next) in
+    ap (λ (l : List ℕ). answered l (a .next)) (sym (append-assoc front (q .bytes) (a .bytes)))
+
+module _ {image list m₀ scratch₀ out₀ m scratch out : List ℕ} {cart : Cartridge} {at i : ℕ} (r : Ran image list m₀ scratch₀ out₀ m scratch out cart at i) where
+  pub out-length : length out ≡ length out₀
+  out-length = ap length (r .outIs) ∙ length-into (r .front) out₀ (omega (arith, r .atIs, r .roomOk))
+
+  -- an item: o is what it answers, stored from `at` on
+  pub goes-on : i < length list → (item : Item) → item ≡ itemIn (drop i list) → (n : ℕ) → n ≡ itemRoom item → {m' scratch' o out' : List ℕ} {cart' : Cartridge}
+      → _≡_ {A = State × List ℕ} (state cart' m', o) (left (play (cutAt image) item (drop i list) (state cart m)))
+      → length o ≡ n → length m' ≡ length m → length scratch' ≡ length scratch → out' ≡ take at out ++ (o ++ drop n (drop at out))
+      → Ran image list m₀ scratch₀ out₀ m' scratch' out' cart' (at + n) (i + itemLength item)
+  goes-on h item k n z {m'} {scratch'} {o} {out'} {cart'} e l lm ls d =
+      let s : State = state cart m in
+      let t : State = r .uncut in
+      let more : List Place = itemsFrom (i + itemLength item) list in
+      let here : Place = record { item = item; bytes = drop i list } in
+      let x : itemsFrom i list ≡ here ∷ more = next-item list i h ∙ (λ j. record { item = sym k j; bytes = drop i list } ∷ itemsFrom (i + itemLength (sym k j)) list) in
+      let w = both-false (isWrite item) (byteWrites more) (usesEeprom (detectSaveType image)) (writes-more here more (usesEeprom (detectSaveType image)) (ap (λ (ps : List Place). byteWrites ps && usesEeprom (detectSaveType image)) (sym x) ∙ r .writesOk)) in
+      let y = plays-same image s t (r .same) (r .stands) item (drop i list) (w .0) in
+      let q : Answered = play notCut item (drop i list) t in
+      let b : o ≡ q .bytes = (λ j. e j .1) ∙ y .bytesSame in
+      let g : room (itemsFrom i list) ≡ itemRoom item + room more = ap room x ∙ room-more here more in
+      let f : length (drop i list) ≡ length list - i = length-drop i list in
+      let v = item-fits (drop i list) (omega (arith, f, h)) in
+      let u : itemLength item ≡ itemLength (itemIn (drop i list)) = ap itemLength k in
+      record {
+        front = r .front ++ q .bytes;
+        uncut = q .next;
+        placeOk = omega (arith, u, v .0, f, h);
+        atIs = omega (arith, r .atIs, length-append (r .front) (q .bytes), l, ap length b);
+        roomOk = omega (arith, r .roomOk, g, z, lm);
+        outIs =
+            d ∙ put-piece (r .front) o out₀ out at n (r .atIs) (omega (arith, r .roomOk)) (r .outIs) l
+            ∙ ap (λ (bs : List ℕ). into (r .front ++ bs) out₀) b;
+        memoryOk = lm ∙ r .memoryOk;
+        scratchOk = ls ∙ r .scratchOk;
+        writesOk = w .1;
+        stands = subst (Recoverable image) (λ j. sym e j .0) (y .stillStands);
+        same = (λ j. quiet (e j .0)) ∙ y .stillSame;
+        wholeIs = r .wholeIs ∙ ap (λ (ps : List Place). behind (r .front) (playAll notCut ps t)) x ∙ played-more (r .front) here more t;
+      }
+
+  -- what comes behind the last item
+  pub ends : length list ≤ i → (n : ℕ) {o out' : List ℕ} → o ≡ ending (state cart m) → length o ≡ n → out' ≡ take at out ++ (o ++ drop n (drop at out))
+      → _≡_ {A = List ℕ × List ℕ} (m, out') (shownBy (uncutRun (items 0 list) (fresh image)) out₀)
+  unfolding uncutRun playAll items
+  ends h n {o} {out'} e l d =
+      let y : i ≡ length list = omega (arith, h, r .placeOk) in
+      let z : drop i list ≡ [] = ap (λ (k : ℕ). drop k list) y ∙ drop-length list in
+      let w : playAll notCut (items 0 list) (fresh image) ≡ answered (r .front) (r .uncut) =
+      r .wholeIs ∙ (λ j. behind (r .front) (playAll notCut (items 0 (z j)) (r .uncut))) ∙ (λ j. answered (append-nil (r .front) j) (r .uncut)) in
+      let t : o ≡ ending (r .uncut) = e ∙ ends-same image (state cart m) (r .uncut) (r .same) (r .stands) in
+      let g : out' ≡ into (r .front ++ ending (r .uncut)) out₀ =
+      d ∙ put-piece (r .front) o out₀ out at n (r .atIs) (omega (arith, r .roomOk)) (r .outIs) l ∙ ap (λ (bs : List ℕ). into (r .front ++ bs) out₀) t in
+      (λ j. (r .same j .memory, g j)) ∙ (λ j. shownBy (answered (sym w j .bytes ++ ending (sym w j .next)) (sym w j .next)) out₀)
