@@ -2,3 +2,4 @@ pub mod Pieces
 pub mod Shown
 pub mod Same
 pub mod Runs
+pub mod Whole

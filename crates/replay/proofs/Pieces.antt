@@ -1,9 +1,9 @@
 -- An answer put together from pieces of the output. Assumes nothing.
-use mathlib.Core.Path.{_≡_, refl, sym, ap, _∙_}
+use mathlib.Core.Path.{_≡_, sym, ap, _∙_}
 use mathlib.Core.List.{List, [], _∷_, _++_, append-nil}
-use Prim.Native.Nat.{ℕ, _-_, _≤_}
+use Prim.Native.Nat.{ℕ, _+_, _-_, _≤_}
 use native.Mathlib.Omega.{arith}
-use lib.ListN.{length, take, drop, set, length-drop, length-append}
+use lib.ListN.{length, take, drop, set, length-take, length-drop}
 use lib.Seq.{take-at, drop-at, drop-length, length-take-le}
 use Rattle.lists.specs.Lists.{into}
 use Rattle.lists.proofs.Parts.{rest}
@@ -40,6 +40,6 @@ tail-of-front out f d a h = tail-put a (f ++ drop a out) d ∙ ap (λ (l : List 
 pub first-five : (out l : List ℕ) → 5 ≤ length out → length (take 5 (take 5 out ++ l)) ≡ 5
 first-five out l h = let e = length-take-le 5 out h in ap length (take-at (take 5 out) l 5 e) ∙ e
 
--- how long a piece is that is lent from a on
-pub tail-length : (a : ℕ) (l : List ℕ) → length (take (length l - a) (drop a l)) ≡ length l - a
-tail-length a l = rw (rest a l) (length-drop a l)
+-- how long a piece is that is lent from a to e
+pub piece-length : (a e n : ℕ) (l : List ℕ) → e ≡ a + n → e ≤ length l → length (take (e - a) (drop a l)) ≡ n
+piece-length a e n l h k = simp (length-take, length-drop) (omega (arith, h, k))

@@ -1,6 +1,6 @@
 -- The loop over a list: what holds before each item. Assumes nothing.
 use mathlib.Core.Path.{_≡_, refl, sym, ap, subst, _∙_}
-use mathlib.Core.Bool.{Bool, true, false, cond, _&&_, _||_}
+use mathlib.Core.Bool.{Bool, true, false, _&&_, _||_}
 use mathlib.Core.List.{List, [], _∷_, _++_, append-nil, append-assoc}
 use Prim.Native.Nat.{ℕ, _+_, _-_, _≤_, _<_}
 use native.Mathlib.Omega.{arith}
@@ -8,15 +8,14 @@ use lib.ListN.{length, take, drop, length-append, length-drop}
 use lib.Seq.{drop-length}
 use Rattle.lists.specs.Lists.{into}
 use Rattle.lists.proofs.Parts.{into-more, length-into}
-use Rattle.kind.specs.Kind.{memorySize, usesEeprom, detectSaveType}
+use Rattle.kind.specs.Kind.{usesEeprom, detectSaveType}
 use Rattle.cart.specs.declared.Cartridge.{Cartridge}
-use Rattle.cart.specs.Record.{State, fresh, recordAllowed}
+use Rattle.cart.specs.Record.{State, fresh}
 use Rattle.cart.specs.Replies.{state}
-use Rattle.cart.proofs.Sound.{record-allowed}
 use Rattle.cart.proofs.Recoverable.{Recoverable}
 use Rattle.cart.proofs.CutRuns.{quiet}
 use Rattle.call_list.specs.declared.Item.{Item}
-use Rattle.call_list.specs.Items.{Place, itemIn, itemLength, itemRoom, items, isItem, isWrite, good, byteWrites, room}
+use Rattle.call_list.specs.Items.{Place, itemIn, itemLength, itemRoom, items, isWrite, byteWrites, room}
 use Rattle.call_list.specs.ListQuestions.{endingRoom}
 use Rattle.call_list.proofs.Places.{next-item, item-fits}
 use Rattle.replay.specs.Replay.{Answered, answered, play, playAll, ending, notCut, cutAt, shownBy, uncutRun, left}
@@ -96,17 +95,30 @@ module _ {image list m₀ scratch₀ out₀ m scratch out : List ℕ} {cart : Ca
   pub out-length : length out ≡ length out₀
   out-length = ap length (r .outIs) ∙ length-into (r .front) out₀ (omega (arith, r .atIs, r .roomOk))
 
+  here-and-more : i < length list → (item : Item) → item ≡ itemIn (drop i list) → (k : ℕ) → k ≡ itemLength item
+      → itemsFrom i list ≡ record { item = item; bytes = drop i list } ∷ itemsFrom (i + k) list
+  here-and-more h item e k a =
+      let w : itemLength (itemIn (drop i list)) ≡ k = ap itemLength (sym e) ∙ sym a in
+      next-item list i h ∙ (λ j. record { item = sym e j; bytes = drop i list } ∷ itemsFrom (i + w j) list)
+
+  -- there is room for what it answers, and for what comes behind all items
+  pub has-room : i < length list → (item : Item) → item ≡ itemIn (drop i list) → at + itemRoom item + endingRoom (length m) ≤ length out₀
+  has-room h item e =
+      let g : room (itemsFrom i list) ≡ itemRoom item + room (itemsFrom (i + itemLength item) list) =
+      ap room (here-and-more h item e (itemLength item) refl) ∙ room-more (record { item = item; bytes = drop i list }) (itemsFrom (i + itemLength item) list) in
+      omega (arith, r .roomOk, g)
+
   -- an item: o is what it answers, stored from `at` on
-  pub goes-on : i < length list → (item : Item) → item ≡ itemIn (drop i list) → (n : ℕ) → n ≡ itemRoom item → {m' scratch' o out' : List ℕ} {cart' : Cartridge}
+  pub goes-on : i < length list → (item : Item) → item ≡ itemIn (drop i list) → (n k : ℕ) → n ≡ itemRoom item → k ≡ itemLength item → {m' scratch' o out' : List ℕ} {cart' : Cartridge}
       → _≡_ {A = State × List ℕ} (state cart' m', o) (left (play (cutAt image) item (drop i list) (state cart m)))
       → length o ≡ n → length m' ≡ length m → length scratch' ≡ length scratch → out' ≡ take at out ++ (o ++ drop n (drop at out))
-      → Ran image list m₀ scratch₀ out₀ m' scratch' out' cart' (at + n) (i + itemLength item)
-  goes-on h item k n z {m'} {scratch'} {o} {out'} {cart'} e l lm ls d =
+      → Ran image list m₀ scratch₀ out₀ m' scratch' out' cart' (at + n) (i + k)
+  goes-on h item y' n k z a {m'} {scratch'} {o} {out'} {cart'} e l lm ls d =
       let s : State = state cart m in
       let t : State = r .uncut in
-      let more : List Place = itemsFrom (i + itemLength item) list in
+      let more : List Place = itemsFrom (i + k) list in
       let here : Place = record { item = item; bytes = drop i list } in
-      let x : itemsFrom i list ≡ here ∷ more = next-item list i h ∙ (λ j. record { item = sym k j; bytes = drop i list } ∷ itemsFrom (i + itemLength (sym k j)) list) in
+      let x : itemsFrom i list ≡ here ∷ more = here-and-more h item y' k a in
       let w = both-false (isWrite item) (byteWrites more) (usesEeprom (detectSaveType image)) (writes-more here more (usesEeprom (detectSaveType image)) (ap (λ (ps : List Place). byteWrites ps && usesEeprom (detectSaveType image)) (sym x) ∙ r .writesOk)) in
       let y = plays-same image s t (r .same) (r .stands) item (drop i list) (w .0) in
       let q : Answered = play notCut item (drop i list) t in
@@ -114,11 +126,11 @@ module _ {image list m₀ scratch₀ out₀ m scratch out : List ℕ} {cart : Ca
       let g : room (itemsFrom i list) ≡ itemRoom item + room more = ap room x ∙ room-more here more in
       let f : length (drop i list) ≡ length list - i = length-drop i list in
       let v = item-fits (drop i list) (omega (arith, f, h)) in
-      let u : itemLength item ≡ itemLength (itemIn (drop i list)) = ap itemLength k in
+      let u : itemLength item ≡ itemLength (itemIn (drop i list)) = ap itemLength y' in
       record {
         front = r .front ++ q .bytes;
         uncut = q .next;
-        placeOk = omega (arith, u, v .0, f, h);
+        placeOk = omega (arith, u, v .0, f, h, a);
         atIs = omega (arith, r .atIs, length-append (r .front) (q .bytes), l, ap length b);
         roomOk = omega (arith, r .roomOk, g, z, lm);
         outIs =

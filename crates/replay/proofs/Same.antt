@@ -10,10 +10,10 @@ use Rattle.lists.specs.Questions.{asked}
 use Rattle.image.specs.Image.{imageLength}
 use Rattle.kind.specs.declared.SaveType.{SaveType}
 use Rattle.kind.specs.Kind.{memorySize, usesEeprom, detectSaveType}
-use Rattle.cart.specs.Record.{State, Outcome, openQuestions, fromBytes, outcome, fresh, freshCart}
+use Rattle.cart.specs.Record.{State, Outcome, openQuestions, fromBytes, outcome, fresh}
 use Rattle.cart.specs.Calls.{Call, saveRead, saveWrite, eepromBeginDma, eepromWrite, eepromRead, loadSave, saveData, chipState, takeSaveDirty, step}
 use Rattle.cart.specs.Cut.{cut}
-use Rattle.cart.proofs.Recoverable.{Recoverable, NoByteWrite, recoverable-step}
+use Rattle.cart.proofs.Recoverable.{Recoverable, NoByteWrite, recoverable-step, recoverable-fresh}
 use Rattle.cart.proofs.CutRuns.{quiet, cut-quiet, unflagged, step-same}
 use Rattle.call_list.specs.declared.Item.{Item}
 use Rattle.call_list.specs.declared.Item.the-variants.{SaveRead, SaveWrite, EepromRead, EepromWrite, BeginDma, TakeFlag, ChipState, LoadSave, SaveData, Cut, Bad}
@@ -30,6 +30,10 @@ open-yes image s r =
 opens : (image : List ℕ) (s : State) → Recoverable image s → fromBytes image (s .memory) .refusal ≡ 0
 unfolding fromBytes
 opens image s r = rw (open-yes image s r)
+
+pub fresh-stands : (image memory : List ℕ) → asked (openQuestions image memory) ≡ 0 → Recoverable image (fresh image)
+unfolding fromBytes
+fresh-stands image memory e = recoverable-fresh image memory (rw e)
 
 -- a state and the same without its flag are recoverable alike
 pub recoverable-quiet : (image : List ℕ) (s : State) → Recoverable image s → Recoverable image (quiet s)

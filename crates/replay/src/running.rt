@@ -15,15 +15,14 @@ use lists::fill;
 use state_calls::chip_state;
 use state_calls::from_bytes;
 ghost use mathlib.Core.Path.{_≡_};
-ghost use mathlib.Core.Bool.{true, false, _&&_};
+ghost use mathlib.Core.Bool.{false, _&&_};
 ghost use Prim.Native.Nat.{_+_, _≤_};
 ghost use lib.ListN.{length};
-ghost use Rattle.lists.specs.Lists.{into};
 ghost use Rattle.lists.specs.Questions.{asked};
 ghost use Rattle.kind.specs.Kind.{usesEeprom, detectSaveType};
 ghost use Rattle.cart.specs.Record.{openQuestions, fresh as fresh·spec};
 ghost use Rattle.cart.specs.Replies.{state};
-ghost use Rattle.call_list.specs.Items.{items, good, byteWrites, room};
+ghost use Rattle.call_list.specs.Items.{items, byteWrites, room};
 ghost use Rattle.call_list.specs.ListQuestions.{endingRoom};
 ghost use Rattle.replay.specs.Replay.{ending, uncutRun, shownBy, replayQuestions, replay};
 
@@ -61,7 +60,6 @@ fn run(
 )
     requires { ⌜ asked (openQuestions (now image) (now memory)) ≡ 0 ⌝ }
     requires { ⌜ state fresh (now memory) ≡ fresh·spec (now image) ⌝ }
-    requires { ⌜ good (items 0 (now list)) ≡ true ⌝ }
     requires { ⌜ (byteWrites (items 0 (now list)) && usesEeprom (detectSaveType (now image))) ≡ false ⌝ }
     requires { ⌜ length (now memory) ≤ length (now scratch) ⌝ }
     requires { ⌜ room (items 0 (now list)) + endingRoom (length (now memory)) ≤ length (now out) ⌝ }

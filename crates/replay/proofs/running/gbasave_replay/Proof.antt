@@ -1,69 +1,40 @@
+use mathlib.Core.Path.{ap, _∙_}
+use native.Mathlib.Omega.{arith}
+use Prim.Native.Nat.{ℕ}
+use lib.ListN.{replicate}
+use Rattle.replay.proofs.Whole.{refused, opens, opened-fresh, no-byte-write, scratch-holds, out-holds, accepted}
 use borrow.Author.Needs.{needs}
 use Rattle.replay.proofs.running.gbasave_replay.Statement.{statement}
 use Rattle.replay.proofs.running.gbasave_replay.Tie as tie
-use Rattle.replay.proofs.running.gbasave_replay.Reads as reads
-use Rattle.replay.proofs.running.gbasave_replay.Lts as lts
-use Rattle.lists.proofs.fill.Reads as fill-reads
-use Rattle.replay.proofs.running.ask.Reads as ask-reads
-use Rattle.replay.proofs.running.run.Reads as run-reads
-use Rattle.state_calls.proofs.from_bytes.Reads as from-bytes-reads
 
--- src/running.rt:103:9
-ask-requires : tie.Need-ask-requires
-ask-requires c κs = search needs
-
--- src/running.rt:105:16
-cast-result : tie.Need-cast-result
-cast-result c = search needs
-
--- src/running.rt:105:9
-same-length : tie.Need-same-length
-same-length c = search needs
-
--- src/running.rt:105:9
 returns : tie.Need-returns
-returns c = ?
+returns c = let a = c .before .before .before .before .before .before .before .before .args in
+    refused (a .image .now) (a .list .now) (a .memory .now) (a .scratch .now) (a .out .now) (c .before .ask .result) (c .before .ask .ensures) (c .if1 .taken)
 
--- src/running.rt:107:9
-from-bytes-requires : tie.Need-from-bytes-requires
-from-bytes-requires c κs = search needs
-
--- src/running.rt:109:5
 run-requires : tie.Need-run-requires
-run-requires c κs = ?
+run-requires c κs = let a = c .before .before .before .before .before .before .before .before .before .before .before .before .before .before .before .before .args in
+    let w = c .before .before .before .before .before .before .before .before .before .ask in
+    let z = c .before .before .before .before .before .before .before .before .if1 .left in
+    let l = c .before .before .before .before .before .memory .given in
+    (opens (a .image .now) (a .list .now) (a .memory .now) (a .scratch .now) (a .out .now) (w .result) (w .ensures) z (c .before .before .before .before .before .before .from-bytes .last .1 .0) l, (opened-fresh (a .image .now) (a .list .now) (a .memory .now) (a .scratch .now) (a .out .now) (w .result) (w .ensures) z (c .before .before .before .before .before .before .from-bytes .ensures), (no-byte-write (a .image .now) (a .list .now) (a .memory .now) (a .scratch .now) (a .out .now) (w .result) (w .ensures) z, (omega (arith, l, scratch-holds (a .image .now) (a .list .now) (a .memory .now) (a .scratch .now) (a .out .now) (w .result) (w .ensures) z), omega (arith, l, out-holds (a .image .now) (a .list .now) (a .memory .now) (a .scratch .now) (a .out .now) (w .result) (w .ensures) z)))))
 
--- src/running.rt:110:5
-fill-requires : tie.Need-fill-requires
-fill-requires c κs = search needs
-
--- src/running.rt:93:1
-same-length-2 : tie.Need-same-length-2
-same-length-2 c = search needs
-
--- src/running.rt:93:1
-same-length-3 : tie.Need-same-length-3
-same-length-3 c = search needs
-
--- src/running.rt:93:1
-same-length-4 : tie.Need-same-length-4
-same-length-4 c = search needs
-
--- src/running.rt:93:1
 returns-2 : tie.Need-returns-2
-returns-2 c = ?
+returns-2 c = let a = c .before .before .before .before .before .before .before .before .before .before .before .before .before .before .before .before .before .before .before .before .before .before .before .before .before .before .before .args in
+    let w = c .before .before .before .before .before .before .before .before .before .before .before .before .before .before .before .before .before .before .before .before .ask in
+    accepted (a .image .now) (a .list .now) (a .memory .now) (a .scratch .now) (a .out .now) (w .result) (w .ensures) (c .before .before .before .before .before .before .before .before .before .before .before .before .before .before .before .before .before .before .before .if1 .left) (c .before .before .before .before .before .before .before .before .before .before .run .ensures) (c .before .before .fill .ensures ∙ ap (λ (n : ℕ). replicate n 0) (c .before .before .before .before .before .before .before .scratch .given))
 
 pub gbasave-replay-spec : {M : Type 1} → statement M
 gbasave-replay-spec =
     tie.close
     (tie.spec
-    ask-requires
-    cast-result
-    same-length
+    (λ c κs. search needs)
+    (λ c. search needs)
+    (λ c. search needs)
     returns
-    from-bytes-requires
+    (λ c κs. search needs)
     run-requires
-    fill-requires
-    same-length-2
-    same-length-3
-    same-length-4
+    (λ c κs. search needs)
+    (λ c. search needs)
+    (λ c. search needs)
+    (λ c. search needs)
     returns-2)

@@ -1,130 +1,140 @@
+use mathlib.Core.Path.{_≡_, refl, ap, _∙_}
+use mathlib.Core.List.{List, _++_}
+use Prim.Native.Nat.{ℕ, _+_}
+use lib.ListN.{take, drop}
+use Rattle.lists.proofs.Parts.{rest}
+use Rattle.cart.specs.Replies.{state}
+use Rattle.cart.proofs.Sound.{record-allowed}
+use Rattle.call_list.specs.Items.{itemIn}
+use Rattle.call_list.proofs.Places.{takes-some}
+use Rattle.call_list.proofs.Surveys.{left-length}
+use Rattle.replay.specs.Replay.{left, play, cutAt}
+use Rattle.replay.proofs.Pieces.{piece-length}
+use Rattle.replay.proofs.Same.{fresh-stands}
+use Rattle.replay.proofs.Runs.{has-room}
+use Prim.Native.Nat.{_-_}
+use native.Mathlib.Omega.{arith}
+use lib.ListN.{length}
+use Rattle.replay.proofs.Runs.{Ran, ran-start, out-length, goes-on, ends}
 use Rattle.replay.proofs.running.run.Statement.{statement}
 use Rattle.replay.proofs.running.run.Tie as tie
-use Rattle.replay.proofs.running.run.Reads as reads
-use Rattle.replay.proofs.running.run.Lts as lts
-use Rattle.call_list.proofs.item_in.Reads as item-in-reads
-use Rattle.call_list.proofs.item_length.Reads as item-length-reads
-use Rattle.call_list.proofs.item_room.Reads as item-room-reads
-use Rattle.replay.proofs.playing.play.Reads as play-reads
-use Rattle.replay.proofs.running.end_with.Reads as end-with-reads
 
 abbrev Inv-loop : tie.InvT-loop
-Inv-loop image list memory₀ scratch₀ out₀ cart₀ at₀ i₀ memory scratch out cart at i = ?
+Inv-loop image list memory₀ scratch₀ out₀ cart₀ at₀ i₀ memory scratch out cart at i = Ran image list memory₀ scratch₀ out₀ memory scratch out cart at i
 
 abbrev μ-loop : tie.MeasureT-loop
-μ-loop image list memory₀ scratch₀ out₀ cart₀ at₀ i₀ memory scratch out cart at i = ?
+μ-loop image list memory₀ scratch₀ out₀ cart₀ at₀ i₀ memory scratch out cart at i = length list - i
 
--- src/running.rt:73:5
 loop-holds : tie.Need-loop-holds Inv-loop μ-loop
-loop-holds c = ?
+loop-holds c = let a = c .before .before .before .before .before .args in
+    ran-start (a .image .now) (a .list .now) (a .memory .now) (a .scratch .now) (a .out .now) (a .fresh) (c .before .before .before .before .before .pre .1 .0) (fresh-stands (a .image .now) (a .memory .now) (c .before .before .before .before .before .pre .0)) (c .before .before .before .before .before .pre .1 .1 .0) (c .before .before .before .before .before .pre .1 .1 .1 .1)
 
--- src/running.rt:74:28
 sub-item-in : tie.Need-sub-item-in Inv-loop μ-loop
-sub-item-in c = ?
+sub-item-in c = c .before .loop .inv .placeOk
 
--- src/running.rt:74:28
 part-item-in-start : tie.Need-part-item-in-start Inv-loop μ-loop
-part-item-in-start c = ?
+part-item-in-start c = c .before .loop .inv .placeOk
 
--- src/running.rt:74:28
 part-item-in-end : tie.Need-part-item-in-end Inv-loop μ-loop
-part-item-in-end c = ?
+part-item-in-end c = omega arith
 
--- src/running.rt:74:13
 item-in-requires : tie.Need-item-in-requires Inv-loop μ-loop
-item-in-requires c κs = ?
+item-in-requires c κs = omega (arith, left-length (c .before .before .before .before .before .before .before .before .args .list .now) (c .before .before .loop .i), c .before .loop-test)
 
--- src/running.rt:75:24
 item-room-requires : tie.Need-item-room-requires Inv-loop μ-loop
-item-room-requires c κs = ?
+item-room-requires c κs = omega (arith, c .item-in .ensures .1 .1)
 
--- src/running.rt:75:19
 add-end : tie.Need-add-end Inv-loop μ-loop
-add-end c = ?
+add-end c = let l = c .before .before .before .before .before .before .before .before .before .before .args .list .now in
+    omega (arith, c .item-room .ensures, has-room (c .before .before .before .before .loop .inv) (omega (arith, c .before .before .before .loop-test)) (c .before .item-in .result) (c .before .item-in .ensures .0 ∙ ap itemIn (rest (c .before .before .before .before .loop .i) l)), c .before .before .before .before .before .before .before .before .before .before .good)
 
--- src/running.rt:78:13
 sub-play : tie.Need-sub-play Inv-loop μ-loop
-sub-play c = ?
+sub-play c = c .before .before .before .before .loop .inv .placeOk
 
--- src/running.rt:78:13
 part-play-start : tie.Need-part-play-start Inv-loop μ-loop
-part-play-start c = ?
+part-play-start c = c .before .before .before .before .loop .inv .placeOk
 
--- src/running.rt:78:13
 part-play-end : tie.Need-part-play-end Inv-loop μ-loop
-part-play-end c = ?
+part-play-end c = omega arith
 
--- src/running.rt:83:13
 sub-play-2 : tie.Need-sub-play-2 Inv-loop μ-loop
-sub-play-2 c = ?
+sub-play-2 c = omega arith
 
--- src/running.rt:83:13
 part-play-start-2 : tie.Need-part-play-start-2 Inv-loop μ-loop
-part-play-start-2 c = ?
+part-play-start-2 c = omega arith
 
--- src/running.rt:83:13
 part-play-end-2 : tie.Need-part-play-end-2 Inv-loop μ-loop
-part-play-end-2 c = ?
+part-play-end-2 c = let l = c .before .before .before .before .before .before .before .before .before .before .before .before .before .args .list .now in
+    omega (arith, c .before .before .before .item-room .ensures, has-room (c .before .before .before .before .before .before .before .loop .inv) (omega (arith, c .before .before .before .before .before .before .loop-test)) (c .before .before .before .before .item-in .result) (c .before .before .before .before .item-in .ensures .0 ∙ ap itemIn (rest (c .before .before .before .before .before .before .before .loop .i) l)), out-length (c .before .before .before .before .before .before .before .loop .inv))
 
--- src/running.rt:76:9
 play-requires : tie.Need-play-requires Inv-loop μ-loop
-play-requires c κs = ?
+play-requires c κs = let b = c .before .before .before .before .before .before .before .before .loop in
+    let l = c .before .before .before .before .before .before .before .before .before .before .before .before .before .before .args .list .now in
+    let k = has-room (b .inv) (omega (arith, c .before .before .before .before .before .before .before .loop-test)) (c .before .before .before .before .before .item-in .result) (c .before .before .before .before .before .item-in .ensures .0 ∙ ap itemIn (rest (b .i) l)) in
+    let n = c .before .before .before .before .item-room .result in
+    let s = state (b .cart) (b .memory) in
+    (c .before .before .before .before .before .item-in .ensures .1 .0, (piece-length (b .at) (b .at + n) n (b .out) refl (omega (arith, c .before .before .before .before .item-room .ensures, k, out-length (b .inv))) ∙ c .before .before .before .before .item-room .ensures, (record-allowed s (b .inv .stands .sound), (b .inv .stands .sound .memoryOk, omega (arith, b .inv .memoryOk, b .inv .scratchOk, c .before .before .before .before .before .before .before .before .before .before .before .before .before .before .pre .1 .1 .1 .0)))))
 
--- src/running.rt:86:14
 item-length-requires : tie.Need-item-length-requires Inv-loop μ-loop
-item-length-requires c κs = ?
+item-length-requires c κs = omega (arith, c .before .before .before .before .before .before .before .before .before .before .before .before .item-in .ensures .1 .0, left-length (c .before .before .before .before .before .before .before .before .before .before .before .before .before .before .before .before .before .before .before .before .before .args .list .now) (c .before .before .before .before .before .before .before .before .before .before .before .before .before .before .before .loop .i), c .before .before .before .before .before .before .before .before .before .before .before .before .before .before .before .before .before .before .before .before .before .good)
 
--- src/running.rt:86:9
 add-i : tie.Need-add-i Inv-loop μ-loop
-add-i c = ?
+add-i c = omega (arith, c .item-length .ensures, c .before .before .before .before .before .before .before .before .before .before .before .before .before .item-in .ensures .1 .0, left-length (c .before .before .before .before .before .before .before .before .before .before .before .before .before .before .before .before .before .before .before .before .before .before .args .list .now) (c .before .before .before .before .before .before .before .before .before .before .before .before .before .before .before .before .loop .i), c .before .before .before .before .before .before .before .before .before .before .before .before .before .before .before .loop-test, c .before .before .before .before .before .before .before .before .before .before .before .before .before .before .before .before .before .before .before .before .before .before .good)
 
--- src/running.rt:73:5
 loop-less : tie.Need-loop-less Inv-loop μ-loop
-loop-less c = ?
+loop-less c = omega (arith, c .item-length .ensures, takes-some (c .before .before .before .before .before .before .before .before .before .before .before .before .before .item-in .result), c .before .before .before .before .before .before .before .before .before .before .before .before .before .before .before .loop-test)
 
--- src/running.rt:73:5
 loop-again : tie.Need-loop-again Inv-loop μ-loop
-loop-again c = ?
+loop-again c = let b = c .before .before .before .before .before .before .before .before .before .before .before .before .before .before .before .before .loop in
+    let a = c .before .before .before .before .before .before .before .before .before .before .before .before .before .before .before .before .before .before .before .before .before .before .args in
+    let l = a .list .now in
+    let n = c .before .before .before .before .before .before .before .before .before .before .before .before .item-room .result in
+    let o = c .before .before .before .before .before .before .before .play .last .1 .1 .1 .1 .1 .1 .0 in
+    let h = c .before .before .before .before .before .before .before .before .before .before .before .before .before .item-in .ensures .0 ∙ ap itemIn (rest (b .i) l) in
+    let k = has-room (b .inv) (omega (arith, c .before .before .before .before .before .before .before .before .before .before .before .before .before .before .before .loop-test)) (c .before .before .before .before .before .before .before .before .before .before .before .before .before .item-in .result) h in
+    let e : b .at + n - b .at ≡ n = omega arith in
+    goes-on (b .inv) (omega (arith, c .before .before .before .before .before .before .before .before .before .before .before .before .before .before .before .loop-test)) (c .before .before .before .before .before .before .before .before .before .before .before .before .before .item-in .result) h n (c .item-length .result) (c .before .before .before .before .before .before .before .before .before .before .before .before .item-room .ensures) (c .item-length .ensures)
+    (c .before .before .before .before .before .before .before .play .ensures ∙ ap (λ (w : List ℕ). left (play (cutAt (a .image .now)) (c .before .before .before .before .before .before .before .before .before .before .before .before .before .item-in .result) w (state (b .cart) (b .memory)))) (rest (b .i) l))
+    (c .before .before .out .given .0 ∙ piece-length (b .at) (b .at + n) n (b .out) refl (omega (arith, c .before .before .before .before .before .before .before .before .before .before .before .before .item-room .ensures, k, out-length (b .inv))))
+    (c .before .before .before .before .before .before .memory .given) (c .before .before .before .before .scratch .given) (λ j. take (b .at) (b .out) ++ (o ++ drop (e j) (drop (b .at) (b .out))))
 
--- src/running.rt:88:15
 add-end-2 : tie.Need-add-end-2 Inv-loop μ-loop
-add-end-2 c = ?
+add-end-2 c = omega (arith, c .before .loop .inv .roomOk, c .before .before .before .before .before .before .before .good)
 
--- src/running.rt:88:15
 add-end-3 : tie.Need-add-end-3 Inv-loop μ-loop
-add-end-3 c = ?
+add-end-3 c = omega (arith, c .before .loop .inv .roomOk, c .before .before .before .before .before .before .before .good)
 
--- src/running.rt:89:28
 sub-end-with : tie.Need-sub-end-with Inv-loop μ-loop
-sub-end-with c = ?
+sub-end-with c = omega arith
 
--- src/running.rt:89:28
 part-end-with-start : tie.Need-part-end-with-start Inv-loop μ-loop
-part-end-with-start c = ?
+part-end-with-start c = omega arith
 
--- src/running.rt:89:28
 part-end-with-end : tie.Need-part-end-with-end Inv-loop μ-loop
-part-end-with-end c = ?
+part-end-with-end c = omega (arith, c .before .before .loop .inv .roomOk, out-length (c .before .before .loop .inv))
 
--- src/running.rt:89:5
 end-with-requires : tie.Need-end-with-requires Inv-loop μ-loop
-end-with-requires c κs = ?
+end-with-requires c κs = let b = c .before .before .before .loop in
+    let n = 24 + length (b .memory) in
+    piece-length (b .at) (b .at + 24 + length (b .memory)) n (b .out) (omega arith) (omega (arith, b .inv .roomOk, out-length (b .inv)))
 
--- src/running.rt:54:1
 same-length : tie.Need-same-length Inv-loop μ-loop
-same-length c = ?
+same-length c = c .before .before .before .before .before .before .loop .inv .memoryOk
 
--- src/running.rt:54:1
 same-length-2 : tie.Need-same-length-2 Inv-loop μ-loop
-same-length-2 c = ?
+same-length-2 c = c .before .before .before .before .before .before .loop .inv .scratchOk
 
--- src/running.rt:54:1
 same-length-3 : tie.Need-same-length-3 Inv-loop μ-loop
-same-length-3 c = ?
+same-length-3 c = c .before .out2 .given .1 ∙ out-length (c .before .before .before .before .before .before .loop .inv)
 
--- src/running.rt:54:1
 returns : tie.Need-returns Inv-loop μ-loop
-returns c = ?
+returns c = let b = c .before .before .before .before .before .before .loop in
+    let n = 24 + length (b .memory) in
+    let o = c .before .before .end-with .last .1 .1 .0 in
+    let e : b .at + 24 + length (b .memory) - b .at ≡ n = omega arith in
+    ends (b .inv) (omega (arith, c .before .before .before .before .before .loop-test)) n (c .before .before .end-with .ensures)
+    (c .before .out2 .given .0 ∙ piece-length (b .at) (b .at + 24 + length (b .memory)) n (b .out) (omega arith) (omega (arith, b .inv .roomOk, out-length (b .inv))))
+    (λ j. take (b .at) (b .out) ++ (o ++ drop (e j) (drop (b .at) (b .out))))
 
 pub run-spec : {M : Type 1} → statement M
 run-spec =
