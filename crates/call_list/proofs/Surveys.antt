@@ -5,7 +5,7 @@ use mathlib.Core.List.{List, [], _∷_}
 use Prim.Native.Nat.{ℕ, zero, suc, _+_, _-_, _≤_, _<_}
 use native.Mathlib.Omega.{arith}
 use lib.Dec.{leb}
-use lib.ListN.{length, take, drop, length-drop}
+use lib.ListN.{length, take, drop}
 use borrow.Author.Tests.{leb-true, leb-false, le-leb, lt-leb}
 use Rattle.lists.proofs.Bools.{cases}
 use Rattle.lists.proofs.Parts.{rest}
@@ -14,10 +14,6 @@ use Rattle.call_list.specs.declared.Survey.{Survey}
 use Rattle.call_list.specs.Items.{Place, itemIn, itemLength, itemRoom, isItem, isWrite, items, good, byteWrites, room}
 use Rattle.call_list.specs.Surveys.{surveyWith, surveyed, surveyedAll}
 use Rattle.call_list.proofs.Places.{next-item}
-
--- how much of a list is left behind place i
-pub left-length : (l : List ℕ) (i : ℕ) → length (take (length l - i) (drop i l)) ≡ length l - i
-left-length l i = rw (rest i l) (length-drop i l)
 
 -- a turn of the loop, and its end
 pub survey-more : (l : List ℕ) (i n : ℕ) (item : Item) (s t whole : Survey) → i < length l → item ≡ itemIn (take (length l - i) (drop i l))

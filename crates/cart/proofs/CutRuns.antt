@@ -226,6 +226,16 @@ step-quiet c d s =
 pub step-same : (c : Call) (d : List ℕ) (s t : State) → quiet s ≡ quiet t → unflagged (step c d s) ≡ unflagged (step c d t)
 step-same c d s t e = sym (step-quiet c d s) ∙ ap (λ (z : State). unflagged (step c d z)) e ∙ step-quiet c d t
 
+-- which loses nothing that a cut needs
+pub recoverable-quiet : (image : List ℕ) (s : State) → Recoverable image s → Recoverable image (quiet s)
+recoverable-quiet image s r =
+    record {
+      sound = record { lenOk = r .sound .lenOk; memoryOk = r .sound .memoryOk; flashOk = r .sound .flashOk; eepromOk = r .sound .eepromOk };
+      lenIs = r .lenIs;
+      kindIs = r .kindIs;
+      tail = r .tail;
+    }
+
 -- any number of cuts
 cuts-kept : (image memory : List ℕ) (n : ℕ) (s : State) → fromBytes image memory .refusal ≡ 0 → Recoverable image s
     → (quiet (cuts image memory n s) ≡ quiet s) × Recoverable image (cuts image memory n s)
@@ -233,9 +243,7 @@ unfolding cuts
 cuts-kept image memory zero s h r = (refl, r)
 cuts-kept image memory (suc n) s h r =
     let q : cut image memory s ≡ quiet s = cut-quiet image memory s h r in
-    let k : Recoverable image (cut image memory s) =
-    rw q (record { sound = record { lenOk = r .sound .lenOk; memoryOk = r .sound .memoryOk; flashOk = r .sound .flashOk; eepromOk = r .sound .eepromOk }; lenIs = r .lenIs; kindIs = r .kindIs; tail = r .tail })
-    in
+    let k : Recoverable image (cut image memory s) = rw q (recoverable-quiet image s r) in
     let i = cuts-kept image memory n (cut image memory s) h k in
     (i .0 ∙ ap quiet q, i .1)
 

@@ -89,7 +89,7 @@ tail-bit s v k u t =
     let l : s .cart .chip .eeprom .large ≡ false = sym (way-large w) ∙ z in
     way-tail (s .memory) (k .memoryOk ∙ eeprom-size (s .cart .kind) u) (k .eepromOk) l w ∙ t u l
 
-exported-next : (f : Option (List ℕ)) (d : List ℕ) (s : State) → exported f d s .next ≡ s
+pub exported-next : (f : Option (List ℕ)) (d : List ℕ) (s : State) → exported f d s .next ≡ s
 exported-next none d s = refl
 exported-next (some f) d s = refl
 

@@ -164,6 +164,13 @@ eqb-add n a b =
 pub rest : (a : ℕ) (l : List ℕ) → take (length l - a) (drop a l) ≡ drop a l
 rest a l = take-all (length l - a) (drop a l) (omega (arith, length-drop a l))
 
+pub length-rest : (a : ℕ) (l : List ℕ) → length (take (length l - a) (drop a l)) ≡ length l - a
+length-rest a l = rw (rest a l) (length-drop a l)
+
+-- and behind that nothing
+pub past-rest : (a : ℕ) (l : List ℕ) → drop (length l - a) (drop a l) ≡ []
+past-rest a l = ap (λ (n : ℕ). drop n (drop a l)) (sym (length-drop a l)) ∙ drop-length (drop a l)
+
 -- the k elements from place a on, as a part of the front
 pub slice-part : (a k : ℕ) (l : List ℕ) → slice a (a + k) l ≡ take k (drop a l)
 slice-part zero k l = rw zero-add

@@ -6,13 +6,12 @@ use native.Mathlib.Omega.{arith}
 use lib.ListN.{length, take, drop, set, length-take, length-drop}
 use lib.Seq.{take-at, drop-at, drop-length, length-take-le}
 use Rattle.lists.specs.Lists.{into}
-use Rattle.lists.proofs.Parts.{rest}
+use Rattle.lists.proofs.Parts.{rest, past-rest}
 
 -- a piece that was lent from a on to the end
 pub tail-put : (a : ℕ) (out ys : List ℕ) → take a out ++ (ys ++ drop (length out - a) (drop a out)) ≡ take a out ++ ys
 tail-put a out ys =
-    let d : drop (length out - a) (drop a out) ≡ [] = ap (λ (n : ℕ). drop n (drop a out)) (sym (length-drop a out)) ∙ drop-length (drop a out) in
-    rw (d, append-nil ys)
+    rw (past-rest a out, append-nil ys)
 
 -- a piece as long as what goes into it
 pub into-all : (f d : List ℕ) → length d ≡ length f → into f d ≡ f

@@ -14,7 +14,7 @@ use Rattle.cart.specs.Record.{State, Outcome, openQuestions, fromBytes, outcome
 use Rattle.cart.specs.Calls.{Call, saveRead, saveWrite, eepromBeginDma, eepromWrite, eepromRead, loadSave, saveData, chipState, takeSaveDirty, step}
 use Rattle.cart.specs.Cut.{cut}
 use Rattle.cart.proofs.Recoverable.{Recoverable, NoByteWrite, recoverable-step, recoverable-fresh}
-use Rattle.cart.proofs.CutRuns.{quiet, cut-quiet, unflagged, step-same}
+use Rattle.cart.proofs.CutRuns.{quiet, cut-quiet, unflagged, step-same, recoverable-quiet}
 use Rattle.call_list.specs.declared.Item.{Item}
 use Rattle.call_list.specs.declared.Item.the-variants.{SaveRead, SaveWrite, EepromRead, EepromWrite, BeginDma, TakeFlag, ChipState, LoadSave, SaveData, Cut, Bad}
 use Rattle.call_list.specs.Items.{isWrite}
@@ -34,16 +34,6 @@ opens image s r = rw (open-yes image s r)
 pub fresh-stands : (image memory : List ℕ) → asked (openQuestions image memory) ≡ 0 → Recoverable image (fresh image)
 unfolding fromBytes
 fresh-stands image memory e = recoverable-fresh image memory (rw e)
-
--- a state and the same without its flag are recoverable alike
-pub recoverable-quiet : (image : List ℕ) (s : State) → Recoverable image s → Recoverable image (quiet s)
-recoverable-quiet image s r =
-    record {
-      sound = record { lenOk = r .sound .lenOk; memoryOk = r .sound .memoryOk; flashOk = r .sound .flashOk; eepromOk = r .sound .eepromOk };
-      lenIs = r .lenIs;
-      kindIs = r .kindIs;
-      tail = r .tail;
-    }
 
 -- which calls are byte writes
 abbrev isByteWrite : Call → Bool

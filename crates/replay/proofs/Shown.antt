@@ -5,17 +5,14 @@ use Prim.Native.Nat.{ℕ, _+_, _-_, _%_, _≤_}
 use native.Mathlib.Omega.{arith}
 use lib.Dec.{eqb}
 use lib.ListN.{length, take, drop}
-use mathlib.Core.Option.{Option, none, some}
 use Rattle.lists.specs.Questions.{asked}
 use Rattle.lists.proofs.Bools.{either}
-use Rattle.kind.specs.declared.SaveType.{SaveType}
-use Rattle.kind.specs.declared.SaveType.the-variants.{None, Sram, Flash64, Flash128, Eeprom512, Eeprom8k}
-use Rattle.kind.specs.Kind.{memorySize}
 use Rattle.cart.specs.declared.Cartridge.{Cartridge}
 use Rattle.cart.specs.declared.Reply.{Reply}
 use Rattle.cart.specs.Record.{State, Outcome}
-use Rattle.cart.specs.Calls.{saveData, fileOf, exported, questions, accepted, step}
+use Rattle.cart.specs.Calls.{saveData, fileOf, questions, accepted, step}
 use Rattle.cart.specs.Replies.{state, replied}
+use Rattle.cart.proofs.Recoverable.{exported-next}
 use Rattle.state_calls.specs.declared.StateAnswer.{StateAnswer}
 use Rattle.state_calls.specs.StateAnswer.{stateAnswered}
 use Rattle.call_list.specs.declared.Item.{Item}
@@ -39,10 +36,6 @@ pub shows-state : (o : Outcome) {a : StateAnswer} {s : State} {out : List ℕ} �
 shows-state o {s = s} e h = (λ i. (s, h i)) ∙ (λ i. (e i .1, e i .0 .refusal ∷ e i .0 .bytes))
 
 -- an export leaves the state
-exported-next : (f : Option (List ℕ)) (d : List ℕ) (s : State) → exported f d s .next ≡ s
-exported-next none d s = refl
-exported-next (some f) d s = refl
-
 pub export-next : (d : List ℕ) (s : State) → step saveData d s .next ≡ s
 unfolding step accepted
 export-next d s = either (λ (o : Outcome). o .next ≡ s) (eqb (asked (questions saveData d s)) 0) (exported-next (fileOf (s .cart .kind) s) d s) refl
@@ -50,15 +43,6 @@ export-next d s = either (λ (o : Outcome). o .next ≡ s) (eqb (asked (question
 pub nothing : (l : List ℕ) → length l ≡ 0 → l ≡ []
 nothing [] e = refl
 nothing (b ∷ l) e = absurd (omega arith)
-
--- no save memory has more bytes than Flash128's
-pub size-small : (kind : SaveType) → memorySize kind ≤ 131072
-size-small None = omega arith
-size-small Sram = omega arith
-size-small Flash64 = omega arith
-size-small Flash128 = omega arith
-size-small Eeprom512 = omega arith
-size-small Eeprom8k = omega arith
 
 -- a load's file ends within the list
 pub load-ends : (i : Item) (n k : ℕ) → i ≡ LoadSave n → itemLength i ≤ k → 5 + n ≤ k

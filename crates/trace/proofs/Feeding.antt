@@ -4,10 +4,10 @@ use mathlib.Core.List.{List, [], _++_, append-nil, append-assoc}
 use Prim.Native.Nat.{ℕ, suc, _+_, _*_, _-_, _≤_, _<_}
 use native.Mathlib.Numerals.{add-one}
 use native.Mathlib.Omega.{arith}
-use lib.ListN.{length, getD, take, drop, length-append, length-drop}
+use lib.ListN.{length, getD, take, drop, length-append}
 use lib.Seq.{drop-cons, drop-length}
 use Rattle.lists.specs.Lists.{into}
-use Rattle.lists.proofs.Parts.{rest, into-more, length-into}
+use Rattle.lists.proofs.Parts.{rest, past-rest, into-more, length-into}
 use Rattle.trace.specs.declared.Session.{Session}
 use Rattle.trace.specs.declared.Told.{Told}
 use Rattle.trace.specs.Session.{Heard, heard, took, tookAll, toldWith, told}
@@ -41,8 +41,7 @@ out-length {input} {m₀} {out₀} f =
 put-behind : (front text out₀ out o' : List ℕ) (len : ℕ) → len ≡ length front → len ≤ length out₀ → out ≡ into front out₀
     → o' ≡ into text (take (length out - len) (drop len out)) → take len out ++ (o' ++ drop (length out - len) (drop len out)) ≡ into (front ++ text) out₀
 put-behind front text out₀ out o' len l k e q =
-    let d : drop (length out - len) (drop len out) ≡ [] = ap (λ (n : ℕ). drop n (drop len out)) (sym (length-drop len out)) ∙ drop-length (drop len out) in
-    rw (d, append-nil o', q, rest len out, e) (into-more front text out₀ len l k)
+    rw (past-rest len out, append-nil o', q, rest len out, e) (into-more front text out₀ len l k)
 
 took-more : (input m : List ℕ) (s : Session) (i : ℕ) (front : List ℕ) → i < length input
     → let h = took s (getD input i 0) m in

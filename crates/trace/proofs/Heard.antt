@@ -3,12 +3,10 @@ use mathlib.Core.Path.{_≡_, ap, _∙_}
 use mathlib.Core.Bool.{true, false}
 use mathlib.Core.List.{List, [], _++_}
 use Prim.Native.Nat.{ℕ, _≤_}
-use native.Mathlib.Omega.{arith}
 use lib.ListN.{length, take, drop}
 use lib.Seq.{length-take-le}
 use Rattle.memory.specs.Memory.{erased}
 use Rattle.kind.specs.declared.SaveType.{SaveType}
-use Rattle.kind.specs.declared.SaveType.the-variants.{None, Sram, Flash64, Flash128, Eeprom512, Eeprom8k}
 use Rattle.kind.specs.Kind.{memorySize}
 use Rattle.trace.specs.declared.Session.{Session}
 use Rattle.trace.specs.declared.Told.{Told}
@@ -22,14 +20,6 @@ pub tells : {x : Told} {session : Session} {len : ℕ} {m out' : List ℕ} (h : 
 tells h out p q w r =
     let k = p ∙ (λ j. toldWith (q j) (w j .0)) in
     λ i. (k i, r i, w i .1)
-
-pub kind-fits : (kind : SaveType) → memorySize kind ≤ 131072
-kind-fits None = omega arith
-kind-fits Sram = omega arith
-kind-fits Flash64 = omega arith
-kind-fits Flash128 = omega arith
-kind-fits Eeprom512 = omega arith
-kind-fits Eeprom8k = omega arith
 
 pub erased-front : {n : ℕ} {e : List ℕ} (kind : SaveType) (m : List ℕ) → n ≡ memorySize kind → n ≤ length m → e ≡ erased (length (take n m)) → e ++ drop n m ≡ erased (memorySize kind) ++ drop (memorySize kind) m
 erased-front {n} {e} kind m k h q =

@@ -1,4 +1,4 @@
-use Rattle.call_list.proofs.Surveys.{left-length}
+use Rattle.lists.proofs.Parts.{length-rest}
 use mathlib.Core.Path.{sym, ap, _∙_}
 use mathlib.Core.List.{_∷_, _++_}
 use Prim.Native.Nat.{ℕ}
@@ -23,7 +23,7 @@ returns c = let a = c .before .before .before .before .before .before .before .b
       front-of-tail (a .out .now) (c .before .before .put-length .last .0) (c .before .before .before .before .before .before .export-into .last .1 .1 .0) (c .before .before .before .before .before .before .before .before .before .before .pre)
           ∙ (λ i. c .before .before .put-length .ensures i ++ c .before .before .before .before .before .before .export-into .last .1 .1 .0)
           ∙ (λ i. (e i .0 .refusal ∷ fourBytes (e i .0 .value)) ++ e i .1)
-          ∙ ap (λ (n : ℕ). fileOf (step saveData (replicate n 0) (state (a .cart) (a .memory .now))) .bytes) (left-length (a .out .now) 5),
+          ∙ ap (λ (n : ℕ). fileOf (step saveData (replicate n 0) (state (a .cart) (a .memory .now))) .bytes) (length-rest 5 (a .out .now)),
       search needs,
     )
 

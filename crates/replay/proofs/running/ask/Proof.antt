@@ -8,7 +8,7 @@ use Rattle.lists.proofs.Bools.{denied, granted}
 use Rattle.kind.specs.Kind.{memorySize, usesEeprom}
 use Rattle.call_list.specs.Items.{items}
 use Rattle.call_list.specs.ListQuestions.{listQuestions}
-use Rattle.replay.proofs.Shown.{size-small}
+use Rattle.kind.proofs.Sizes.{memory-small}
 use borrow.Author.Needs.{needs}
 use Rattle.replay.proofs.running.ask.Statement.{statement}
 use Rattle.replay.proofs.running.ask.Tie as tie
@@ -21,7 +21,7 @@ returns-2 c = let n = c .before .memory-size .ensures ∙ ap memorySize (c .befo
     rw (granted _ (c .before .before .before .before .image-length .ensures) (c .before .before .before .if1 .left), ← n, ne-eqb _ _ (c .if2 .taken))
 
 ask-list-requires : tie.Need-ask-list-requires
-ask-list-requires c κs = omega (arith, c .before .if2 .left, c .before .before .memory-size .ensures, size-small (c .before .before .before .detect-save-type .result))
+ask-list-requires c κs = omega (arith, c .before .if2 .left, c .before .before .memory-size .ensures, memory-small (c .before .before .before .detect-save-type .result))
 
 returns-3 : tie.Need-returns-3
 returns-3 c = let a = c .before .before .before .before .before .before .before .before .before .before .args in

@@ -2,12 +2,11 @@ use mathlib.Core.Path.{_≡_, refl, ap, _∙_}
 use mathlib.Core.List.{List, _++_}
 use Prim.Native.Nat.{ℕ, _+_}
 use lib.ListN.{take, drop}
-use Rattle.lists.proofs.Parts.{rest}
+use Rattle.lists.proofs.Parts.{length-rest, rest}
 use Rattle.cart.specs.Replies.{state}
 use Rattle.cart.proofs.Sound.{record-allowed}
 use Rattle.call_list.specs.Items.{itemIn}
 use Rattle.call_list.proofs.Places.{takes-some}
-use Rattle.call_list.proofs.Surveys.{left-length}
 use Rattle.replay.specs.Replay.{left, play, cutAt}
 use Rattle.replay.proofs.Pieces.{piece-length}
 use Rattle.replay.proofs.Same.{fresh-stands}
@@ -39,7 +38,7 @@ part-item-in-end : tie.Need-part-item-in-end Inv-loop μ-loop
 part-item-in-end c = omega arith
 
 item-in-requires : tie.Need-item-in-requires Inv-loop μ-loop
-item-in-requires c κs = omega (arith, left-length (c .before .before .before .before .before .before .before .before .args .list .now) (c .before .before .loop .i), c .before .loop-test)
+item-in-requires c κs = omega (arith, length-rest (c .before .before .loop .i) (c .before .before .before .before .before .before .before .before .args .list .now), c .before .loop-test)
 
 item-room-requires : tie.Need-item-room-requires Inv-loop μ-loop
 item-room-requires c κs = omega (arith, c .item-in .ensures .1 .1)
@@ -76,10 +75,10 @@ play-requires c κs = let b = c .before .before .before .before .before .before 
     (c .before .before .before .before .before .item-in .ensures .1 .0, (piece-length (b .at) (b .at + n) n (b .out) refl (omega (arith, c .before .before .before .before .item-room .ensures, k, out-length (b .inv))) ∙ c .before .before .before .before .item-room .ensures, (record-allowed s (b .inv .stands .sound), (b .inv .stands .sound .memoryOk, omega (arith, b .inv .memoryOk, b .inv .scratchOk, c .before .before .before .before .before .before .before .before .before .before .before .before .before .before .pre .1 .1 .1 .0)))))
 
 item-length-requires : tie.Need-item-length-requires Inv-loop μ-loop
-item-length-requires c κs = omega (arith, c .before .before .before .before .before .before .before .before .before .before .before .before .item-in .ensures .1 .0, left-length (c .before .before .before .before .before .before .before .before .before .before .before .before .before .before .before .before .before .before .before .before .before .args .list .now) (c .before .before .before .before .before .before .before .before .before .before .before .before .before .before .before .loop .i), c .before .before .before .before .before .before .before .before .before .before .before .before .before .before .before .before .before .before .before .before .before .good)
+item-length-requires c κs = omega (arith, c .before .before .before .before .before .before .before .before .before .before .before .before .item-in .ensures .1 .0, length-rest (c .before .before .before .before .before .before .before .before .before .before .before .before .before .before .before .loop .i) (c .before .before .before .before .before .before .before .before .before .before .before .before .before .before .before .before .before .before .before .before .before .args .list .now), c .before .before .before .before .before .before .before .before .before .before .before .before .before .before .before .before .before .before .before .before .before .good)
 
 add-i : tie.Need-add-i Inv-loop μ-loop
-add-i c = omega (arith, c .item-length .ensures, c .before .before .before .before .before .before .before .before .before .before .before .before .before .item-in .ensures .1 .0, left-length (c .before .before .before .before .before .before .before .before .before .before .before .before .before .before .before .before .before .before .before .before .before .before .args .list .now) (c .before .before .before .before .before .before .before .before .before .before .before .before .before .before .before .before .loop .i), c .before .before .before .before .before .before .before .before .before .before .before .before .before .before .before .loop-test, c .before .before .before .before .before .before .before .before .before .before .before .before .before .before .before .before .before .before .before .before .before .before .good)
+add-i c = omega (arith, c .item-length .ensures, c .before .before .before .before .before .before .before .before .before .before .before .before .before .item-in .ensures .1 .0, length-rest (c .before .before .before .before .before .before .before .before .before .before .before .before .before .before .before .before .loop .i) (c .before .before .before .before .before .before .before .before .before .before .before .before .before .before .before .before .before .before .before .before .before .before .args .list .now), c .before .before .before .before .before .before .before .before .before .before .before .before .before .before .before .loop-test, c .before .before .before .before .before .before .before .before .before .before .before .before .before .before .before .before .before .before .before .before .before .before .good)
 
 loop-less : tie.Need-loop-less Inv-loop μ-loop
 loop-less c = omega (arith, c .item-length .ensures, takes-some (c .before .before .before .before .before .before .before .before .before .before .before .before .before .item-in .result), c .before .before .before .before .before .before .before .before .before .before .before .before .before .before .before .loop-test)

@@ -1,3 +1,4 @@
+use Rattle.kind.proofs.Sizes.{memory-small}
 use mathlib.Core.Path.{refl, sym, ap, _∙_}
 use native.Mathlib.Omega.{arith}
 use lib.Seq.{length-take-le}
@@ -5,16 +6,16 @@ use Rattle.frames.specs.declared.FirstLine.{FirstLine}
 use Rattle.frames.specs.declared.FirstLine.the-variants.{Fresh, NoKind}
 use Rattle.trace.specs.declared.Stage.the-variants.{Playing, Over}
 use Rattle.trace.specs.Session.{sessionWith, begun, told}
-use Rattle.trace.proofs.Heard.{tells, kind-fits, erased-front}
+use Rattle.trace.proofs.Heard.{tells, erased-front}
 use borrow.Author.Needs.{needs}
 use Rattle.trace.proofs.characters.begin.Statement.{statement}
 use Rattle.trace.proofs.characters.begin.Tie as tie
 
 slice-relend-prefix-erase : tie.Need-slice-relend-prefix-erase
-slice-relend-prefix-erase c = omega (arith, c .memory-size .ensures, kind-fits (c .before .before .first .given .0 .0), c .before .before .before .before .before .before .pre .0)
+slice-relend-prefix-erase c = omega (arith, c .memory-size .ensures, memory-small (c .before .before .first .given .0 .0), c .before .before .before .before .before .before .pre .0)
 
 slice-aggregate-erase : tie.Need-slice-aggregate-erase
-slice-aggregate-erase c = sym (length-take-le _ (c .before .before .before .before .before .before .before .args .memory .now) (omega (arith, c .before .memory-size .ensures, kind-fits (c .before .before .before .first .given .0 .0), c .before .before .before .before .before .before .before .pre .0)))
+slice-aggregate-erase c = sym (length-take-le _ (c .before .before .before .before .before .before .before .args .memory .now) (omega (arith, c .before .memory-size .ensures, memory-small (c .before .before .before .first .given .0 .0), c .before .before .before .before .before .before .before .pre .0)))
 
 print-status-requires : tie.Need-print-status-requires
 print-status-requires c κs = omega (arith, c .before .before .before .before .before .before .before .before .before .before .before .before .before .before .pre .1)
@@ -27,7 +28,7 @@ returns c =
     tells (begun (Fresh kind) (a .session) (a .memory .now)) (a .out .now) (c .told-with .ensures)
     (c .before .before .before .before .before .session-with .ensures ∙ (λ i. sessionWith Playing (c .before .before .before .before .before .before .before .empty-line .ensures i) (c .before .before .before .before .before .before .fresh-cart .ensures i)))
     (c .before .before .before .print-status .ensures)
-    (erased-front kind (a .memory .now) (c .before .before .before .before .before .before .before .before .before .before .before .before .memory-size .ensures) (omega (arith, c .before .before .before .before .before .before .before .before .before .before .before .before .memory-size .ensures, kind-fits kind, c .before .before .before .before .before .before .before .before .before .before .before .before .before .before .before .before .before .before .pre .0)) (c .before .before .before .before .before .before .before .before .before .before .erase .ensures))
+    (erased-front kind (a .memory .now) (c .before .before .before .before .before .before .before .before .before .before .before .before .memory-size .ensures) (omega (arith, c .before .before .before .before .before .before .before .before .before .before .before .before .memory-size .ensures, memory-small kind, c .before .before .before .before .before .before .before .before .before .before .before .before .before .before .before .before .before .before .pre .0)) (c .before .before .before .before .before .before .before .before .before .before .erase .ensures))
     ∙ ap (λ (f : FirstLine). told (begun f (a .session) (a .memory .now)) (a .out .now)) (sym (c .before .before .before .before .before .before .before .before .before .before .before .before .before .before .first .given .1))
 
 returns-2 : tie.Need-returns-2

@@ -1,3 +1,4 @@
+use Rattle.kind.proofs.Sizes.{memory-small}
 use mathlib.Core.Path.{sym, _∙_}
 use mathlib.Core.List.{_++_}
 use native.Mathlib.Omega.{arith}
@@ -7,16 +8,16 @@ use Rattle.cart.specs.Replies.{state}
 use Rattle.trace.specs.declared.Stage.the-variants.{Playing}
 use Rattle.trace.specs.Trace.{play, shown}
 use Rattle.trace.specs.Session.{sessionWith, continued}
-use Rattle.trace.proofs.Heard.{tells, kind-fits}
+use Rattle.trace.proofs.Heard.{tells}
 use borrow.Author.Needs.{needs}
 use Rattle.trace.proofs.characters.go_on.Statement.{statement}
 use Rattle.trace.proofs.characters.go_on.Tie as tie
 
 slice-relend-prefix-play : tie.Need-slice-relend-prefix-play
-slice-relend-prefix-play c = omega (arith, c .before .memory-size .ensures, kind-fits (c .before .before .before .before .before .before .args .session .cart .kind), c .before .before .before .before .before .before .pre .0)
+slice-relend-prefix-play c = omega (arith, c .before .memory-size .ensures, memory-small (c .before .before .before .before .before .before .args .session .cart .kind), c .before .before .before .before .before .before .pre .0)
 
 slice-aggregate-play : tie.Need-slice-aggregate-play
-slice-aggregate-play c = sym (length-take-le _ (c .before .before .before .before .before .before .before .args .memory .now) (omega (arith, c .before .before .memory-size .ensures, kind-fits (c .before .before .before .before .before .before .before .args .session .cart .kind), c .before .before .before .before .before .before .before .pre .0)))
+slice-aggregate-play c = sym (length-take-le _ (c .before .before .before .before .before .before .before .args .memory .now) (omega (arith, c .before .before .memory-size .ensures, memory-small (c .before .before .before .before .before .before .before .args .session .cart .kind), c .before .before .before .before .before .before .before .pre .0)))
 
 returns : tie.Need-returns
 unfolding continued
