@@ -1,4 +1,4 @@
-//! Tells the compiler where the original module and the part's archive stand; `compare/build` knows both places.
+//! Tells the compiler where the original module and the part's archives stand; `compare/build` knows both places.
 
 use std::{env, path::Path};
 
@@ -10,6 +10,7 @@ fn main() {
     println!("cargo:rustc-link-search=native={archive}");
     println!("cargo:rerun-if-changed={}", module.display());
     println!("cargo:rerun-if-changed={archive}/libcart_abi.a");
+    println!("cargo:rerun-if-changed={archive}/libreplay.a");
     println!("cargo:rerun-if-env-changed=CART_SOURCE");
     println!("cargo:rerun-if-env-changed=CART_ARCHIVE");
 }

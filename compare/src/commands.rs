@@ -38,6 +38,9 @@ fn bits(number: u64, width: u32) -> impl Iterator<Item = Call> {
     (0..width).rev().map(move |place| Call::BitIn((number >> place & 1) as u16))
 }
 
+/// The lengths of the serial commands, and of what comes back.
+pub const DMA_WORDS: [u16; 5] = [9, 17, 73, 81, 68];
+
 /// DMA 9 or 17: opcode 11, the address, and the end bit 0.
 pub fn set_address(width: u32, block: u64) -> Vec<Call> {
     let mut calls = vec![Call::Dma(width as u16 + 3)];

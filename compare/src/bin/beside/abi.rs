@@ -55,3 +55,20 @@ extern "C" {
     pub fn gbasave_save_size(image: *const u8, image_len: usize, size: &mut u32) -> u32;
     pub fn gbasave_memory_size(kind: u32, size: &mut u32) -> u32;
 }
+
+#[link(name = "replay", kind = "static")]
+extern "C" {
+    /// Runs a list of calls, with its cuts, through the part.
+    pub fn gbasave_replay(
+        image: *const u8,
+        image_len: usize,
+        list: *const u8,
+        list_len: usize,
+        memory: *mut u8,
+        memory_len: usize,
+        scratch: *mut u8,
+        scratch_len: usize,
+        out: *mut u8,
+        out_len: usize,
+    ) -> u32;
+}

@@ -2,6 +2,7 @@
 
 mod abi;
 mod bench;
+mod cuts;
 mod exhaustive;
 mod images;
 mod original;
@@ -17,7 +18,7 @@ use compare::kind;
 use pair::Pair;
 use run::{Fault, Run};
 
-const USAGE: &str = "usage: beside [--seed HEX] [--fault rust | --fault part], or beside bench";
+const USAGE: &str = "usage: beside [--seed HEX] [--fault rust | part | replay], or beside bench";
 
 fn main() {
     if std::env::args().nth(1).as_deref() == Some("bench") {
@@ -31,10 +32,11 @@ fn beside(mut run: Run) {
     println!("beside: seed {:X}", run.seed);
     for kind in kind::ALL {
         cartridges(&mut run, kind);
+        cuts::compare(&mut run, kind);
     }
     images::compare(&mut run);
     run.clear_line();
-    println!("beside: no difference in {} calls, {:.0} s", run.calls, run.seconds());
+    println!("beside: no difference in {} calls with {} cuts, {:.0} s", run.calls, run.cuts, run.seconds());
 }
 
 fn arguments() -> Run {
@@ -45,6 +47,7 @@ fn arguments() -> Run {
             ("--seed", Some(digits)) => seed = u64::from_str_radix(digits, 16).unwrap_or_else(|_| usage()),
             ("--fault", Some("rust")) => fault = Fault::Rust,
             ("--fault", Some("part")) => fault = Fault::Part,
+            ("--fault", Some("replay")) => fault = Fault::Replay,
             _ => usage(),
         }
     }

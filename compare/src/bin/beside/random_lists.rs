@@ -32,7 +32,7 @@ fn one_list(pair: &mut Pair, list: u64) {
 }
 
 /// Each list has numbers of its own.
-fn random_of(seed: u64, kind: Kind, list: u64) -> Random {
+pub fn random_of(seed: u64, kind: Kind, list: u64) -> Random {
     let mut random = Random::new(seed ^ (u64::from(kind) << 56) ^ (list << 32));
     Random::new(random.number())
 }

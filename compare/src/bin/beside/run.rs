@@ -10,12 +10,15 @@ pub enum Fault {
     Rust,
     /// The part's DMA 9 clears large.
     Part,
+    /// The replay's cuts restore nothing.
+    Replay,
 }
 
 pub struct Run {
     pub seed: u64,
     pub fault: Fault,
     pub calls: u64,
+    pub cuts: u64,
     place: String,
     terminal: bool,
     started: Instant,
@@ -24,7 +27,7 @@ pub struct Run {
 impl Run {
     pub fn new(seed: u64, fault: Fault) -> Self {
         let terminal = stderr().is_terminal();
-        Self { seed, fault, calls: 0, place: String::new(), terminal, started: Instant::now() }
+        Self { seed, fault, calls: 0, cuts: 0, place: String::new(), terminal, started: Instant::now() }
     }
 
     pub fn seconds(&self) -> f64 {

@@ -2,10 +2,8 @@
 
 use crate::pair::Pair;
 use compare::call::Call;
-use compare::commands::{read_back, set_address, write_block};
+use compare::commands::{read_back, set_address, write_block, DMA_WORDS};
 use compare::records::{positions, serial, with_acc, with_block, Chip};
-
-const WORDS: [u16; 5] = [9, 17, 73, 81, 68];
 
 pub fn compare(pair: &mut Pair) {
     pair.at("serial positions");
@@ -31,7 +29,7 @@ pub fn compare(pair: &mut Pair) {
 }
 
 fn every_step(pair: &mut Pair, chip: Chip) {
-    for words in WORDS.map(Some).into_iter().chain([None]) {
+    for words in DMA_WORDS.map(Some).into_iter().chain([None]) {
         for step in [Call::BitIn(0), Call::BitIn(1), Call::BitOut] {
             pair.call(Call::Restore(chip));
             pair.calls(words.map(Call::Dma));
@@ -42,7 +40,7 @@ fn every_step(pair: &mut Pair, chip: Chip) {
 
 fn every_place(pair: &mut Pair, large: u8, command: &[Call]) {
     for place in 0..=command.len() {
-        for words in WORDS {
+        for words in DMA_WORDS {
             pair.call(Call::Restore(serial(0, large, 0, 0)));
             let (before, behind) = command.split_at(place);
             pair.calls(before.iter().copied());
