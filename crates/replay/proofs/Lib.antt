@@ -3,3 +3,4 @@ pub mod Shown
 pub mod Same
 pub mod Runs
 pub mod Whole
+pub mod Encoded

@@ -70,12 +70,12 @@ put-piece : (front o out₀ out : List ℕ) (at n : ℕ) → at ≡ length front
 unfolding into
 put-piece front o out₀ out at n l k e z = rw (sym z, e) (unfold into in into-more front o out₀ at l k)
 
-both-false : (a b e : Bool) → (a || b) && e ≡ false → (a && e ≡ false) × (b && e ≡ false)
+pub both-false : (a b e : Bool) → (a || b) && e ≡ false → (a && e ≡ false) × (b && e ≡ false)
 both-false true true e h = (h, h)
 both-false true false e h = (h, refl)
 both-false false b e h = (refl, h)
 
-writes-more : (p : Place) (list : List Place) (e : Bool) → byteWrites (p ∷ list) && e ≡ false → (isWrite (p .item) || byteWrites list) && e ≡ false
+pub writes-more : (p : Place) (list : List Place) (e : Bool) → byteWrites (p ∷ list) && e ≡ false → (isWrite (p .item) || byteWrites list) && e ≡ false
 unfolding byteWrites
 writes-more p list e h = h
 

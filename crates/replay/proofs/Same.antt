@@ -36,7 +36,7 @@ unfolding fromBytes
 fresh-stands image memory e = recoverable-fresh image memory (rw e)
 
 -- which calls are byte writes
-abbrev isByteWrite : Call → Bool
+abbrev pub isByteWrite : Call → Bool
 isByteWrite (saveRead a) = false
 isByteWrite (saveWrite a v) = true
 isByteWrite (eepromBeginDma words) = false
@@ -47,7 +47,7 @@ isByteWrite saveData = false
 isByteWrite chipState = false
 isByteWrite takeSaveDirty = false
 
-no-write : (kind : SaveType) (c : Call) → isByteWrite c && usesEeprom kind ≡ false → NoByteWrite kind c
+pub no-write : (kind : SaveType) (c : Call) → isByteWrite c && usesEeprom kind ≡ false → NoByteWrite kind c
 no-write kind c h = λ a v p. let w : isByteWrite c ≡ true = ap isByteWrite (sym p) in rw w at h
 
 -- s is cut, t is not: what they answer and how they go on

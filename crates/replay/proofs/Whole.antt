@@ -6,7 +6,7 @@ use mathlib.Core.List.{List}
 use Prim.Native.Nat.{ℕ, _+_, _≤_}
 use lib.Dec.{eqb}
 use lib.ListN.{length, replicate}
-use borrow.Author.Tests.{ne-eqb, leb-true, not-true}
+use borrow.Author.Tests.{eqb-true, ne-eqb, leb-true, not-true}
 use Rattle.lists.specs.Questions.{asked}
 use Rattle.lists.proofs.Questions.{AllYes, all-yes, yes-all}
 use Rattle.kind.specs.Kind.{memorySize, usesEeprom, detectSaveType}
@@ -31,15 +31,18 @@ module _ (image bytes memory scratch out : List ℕ) (n : ℕ) (e : n ≡ asked 
     pub opens : (m : List ℕ) → length m ≡ length memory → asked (openQuestions image m) ≡ 0
     opens m l = all-yes (openQuestions image m) (yes .0, (ap (λ (k : ℕ). eqb k (memorySize (detectSaveType image))) l ∙ yes .1 .0, tt))
 
-    opens-here : fromBytes image memory .refusal ≡ 0
+    pub opens-here : fromBytes image memory .refusal ≡ 0
     unfolding fromBytes
     opens-here = rw (opens memory refl)
 
-    next-fresh : fromBytes image memory .next ≡ fresh image
+    pub next-fresh : fromBytes image memory .next ≡ fresh image
     next-fresh = ap (λ (o : Outcome). o .next) (opened image memory opens-here)
 
     pub opened-fresh : {r : Reply} {m : List ℕ} → _≡_ {A = Reply × List ℕ} (r, m) (replied (fromBytes image memory)) → state (r .cart) m ≡ fresh image
     opened-fresh f = (λ i. state (f i .0 .cart) (f i .1)) ∙ next-fresh
+
+    pub memory-length : length memory ≡ memorySize (detectSaveType image)
+    memory-length = eqb-true _ _ (yes .1 .0)
 
     pub no-byte-write : byteWrites (items 0 bytes) && usesEeprom (detectSaveType image) ≡ false
     no-byte-write = not-true _ (yes .1 .1 .1 .0)

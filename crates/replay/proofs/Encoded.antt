@@ -1,0 +1,178 @@
+-- A replay's output is what the runs of demand 3 show. Assumes nothing.
+use mathlib.Core.Path.{_≡_, refl, sym, ap, subst, _∙_}
+use mathlib.Core.Bool.{Bool, true, false, _&&_, _||_}
+use mathlib.Core.List.{List, [], _∷_, _++_, map, append-assoc, List·Memᴰ, List·Memᴰ·head, List·Memᴰ·tail}
+use mathlib.Core.Option.{Option, none, some}
+use Prim.Native.Nat.{ℕ}
+use lib.Dec.{eqb}
+use lib.ListN.{length, take, drop, replicate, length-replicate}
+use borrow.Author.Tests.{eqb-true}
+use Rattle.lists.specs.Lists.{into}
+use Rattle.lists.specs.Questions.{asked}
+use Rattle.lists.proofs.Bools.{cases}
+use Rattle.kind.specs.Kind.{memorySize, usesEeprom, detectSaveType}
+use Rattle.cart.specs.Record.{State, Outcome, fromBytes}
+use Rattle.cart.specs.Calls.{Call, saveRead, saveWrite, eepromBeginDma, eepromWrite, eepromRead, loadSave, saveData, chipState, takeSaveDirty, exported, fileOf, step}
+use Rattle.cart.specs.ChipState.{chipBytes}
+use Rattle.cart.specs.Cut.{fileLeft, bytesLeft, cuts, Turn, Compared, run, uncut}
+use Rattle.cart.proofs.Sound.{record-allowed, memory-fits}
+use Rattle.cart.proofs.Recoverable.{Recoverable, recoverable-step}
+use Rattle.cart.proofs.CutRuns.{cut-runs, export-accepted, state-accepted, file-left, bytes-left}
+use Rattle.call_list.specs.declared.Item.{Item}
+use Rattle.call_list.specs.declared.Item.the-variants.{SaveRead, SaveWrite, EepromRead, EepromWrite, BeginDma, TakeFlag, ChipState, LoadSave, SaveData, Cut, Bad}
+use Rattle.call_list.specs.Items.{Place, items, isWrite, byteWrites}
+use Rattle.replay.specs.Replay.{Answered, replayQuestions, play, playAll, notCut, ending, stateOf, uncutRun}
+use Rattle.replay.specs.Replay as replay
+use Rattle.replay.specs.Claims.{cutsInFront, turn, turnOr, turns, shownBytes, callsBytes, fileBytes, encoded, ReplayRuns}
+use Rattle.replay.proofs.Same.{isByteWrite, no-write, fresh-stands}
+use Rattle.replay.proofs.Runs.{both-false, writes-more}
+use Rattle.replay.proofs.Whole.{opens, opens-here, next-fresh, no-byte-write, memory-length}
+
+file-bytes : (n : ℕ) (f : Option (List ℕ)) (s : State) → replay.fileOf (exported f (replicate n 0) s) .bytes ≡ fileBytes n f
+file-bytes n none s = refl
+file-bytes n (some f) s = refl
+
+ending-is : (image : List ℕ) (s : State) → Recoverable image s → ending s ≡ fileBytes (length (s .memory)) (fileLeft s) ++ (0 ∷ bytesLeft s)
+unfolding ending chipBytes
+ending-is image s r =
+    let n : ℕ = length (s .memory) in
+    let a = record-allowed s (r .sound) in
+    let b = memory-fits s (r .sound) in
+    let f : replay.fileOf (step saveData (replicate n 0) s) .bytes ≡ fileBytes n (fileLeft s) =
+    ap (λ (o : Outcome). replay.fileOf o .bytes) (export-accepted (replicate n 0) s a b (length-replicate n 0)) ∙ file-bytes n (fileOf (s .cart .kind) s) s ∙ ap (fileBytes n) (sym (file-left s a b)) in
+    let g : stateOf (step chipState [] s) .bytes ≡ 0 ∷ bytesLeft s = ap (λ (o : Outcome). stateOf o .bytes) (state-accepted s a) ∙ ap (λ (l : List ℕ). 0 ∷ l) (sym (bytes-left s a)) in
+    λ i. f i ++ g i
+
+-- how many bytes a recoverable state's memory has
+memory-is : (image : List ℕ) (s : State) → Recoverable image s → length (s .memory) ≡ memorySize (detectSaveType image)
+memory-is image s r = r .sound .memoryOk ∙ ap memorySize (r .kindIs)
+
+-- what is left to show
+abbrev shownFrom : List ℕ → List ℕ → List Turn → State → List ℕ
+shownFrom image memory list s = encoded (memorySize (detectSaveType image)) list (run image memory (uncut list) s)
+
+-- a call in front of a list
+call-more : (image memory : List ℕ) (c : Call) (d : List ℕ) (k : ℕ) (list : List Turn) (s : State) (rest : Answered)
+    → let o = step c d s in
+    rest .bytes ++ ending (rest .next) ≡ shownFrom image memory list (o .next)
+    → (shownBytes c (record { refusal = o .refusal; given = o .given; destination = o .destination }) ++ rest .bytes) ++ ending (rest .next) ≡ shownFrom image memory (turn c d k ∷ list) s
+unfolding encoded callsBytes run cuts
+call-more image memory c d k list s rest e =
+    let o = step c d s in
+    let b : List ℕ = shownBytes c (record { refusal = o .refusal; given = o .given; destination = o .destination }) in
+    let r = run image memory (uncut list) (o .next) in
+    append-assoc b (rest .bytes) (ending (rest .next)) ∙ ap (λ (l : List ℕ). b ++ l) e
+    ∙ sym (append-assoc b (callsBytes (map (λ t. t .call) list) (r .calls)) (fileBytes (memorySize (detectSaveType image)) (r .file) ++ (0 ∷ r .bytes)))
+
+-- an item in front of a list that is known to be shown
+abbrev Shows : List ℕ → List ℕ → List Place → Type 0
+Shows image memory list = (t : State) → Recoverable image t → let r = playAll notCut list t in r .bytes ++ ending (r .next) ≡ shownFrom image memory (turns list) t
+
+module _ (image memory : List ℕ) (list : List Place) (k : ℕ) (s : State) (r : Recoverable image s) (h : Shows image memory list) where
+  call-shown : (c : Call) (d : List ℕ) → isByteWrite c && usesEeprom (detectSaveType image) ≡ false
+      → let o = step c d s in
+      let rest = playAll notCut list (o .next) in
+      (shownBytes c (record { refusal = o .refusal; given = o .given; destination = o .destination }) ++ rest .bytes) ++ ending (rest .next)
+      ≡ shownFrom image memory (turn c d k ∷ turns list) s
+  call-shown c d w =
+      let o = step c d s in
+      call-more image memory c d k (turns list) s (playAll notCut list (o .next)) (h (o .next) (recoverable-step image c d s (no-write (detectSaveType image) c w) r))
+
+  item-shown : (i : Item) (l : List ℕ) → isWrite i && usesEeprom (detectSaveType image) ≡ false
+      → let a = play notCut i l s in
+      let rest = playAll notCut list (a .next) in
+      (a .bytes ++ rest .bytes) ++ ending (rest .next) ≡ shownFrom image memory (turnOr i l k (turns list)) s
+  unfolding play
+  item-shown (SaveRead a) l w = call-shown (saveRead a) [] refl
+  item-shown (SaveWrite a v) l w = call-shown (saveWrite a v) [] w
+  item-shown EepromRead l w = call-shown eepromRead [] refl
+  item-shown (EepromWrite v) l w = call-shown (eepromWrite v) [] refl
+  item-shown (BeginDma words) l w = call-shown (eepromBeginDma words) [] refl
+  item-shown TakeFlag l w = call-shown takeSaveDirty [] refl
+  item-shown ChipState l w = call-shown chipState [] refl
+  item-shown (LoadSave n) l w = call-shown (loadSave (take n (drop 5 l))) [] refl
+  item-shown (SaveData n) l w = call-shown saveData (replicate n 0) refl
+  item-shown Cut l w = h s r
+  item-shown Bad l w = h s r
+
+ending-shown : (image memory : List ℕ) (s : State) → Recoverable image s → ending s ≡ shownFrom image memory [] s
+unfolding encoded callsBytes run
+ending-shown image memory s r = ending-is image s r ∙ ap (λ (n : ℕ). fileBytes n (fileLeft s) ++ (0 ∷ bytesLeft s)) (memory-is image s r)
+
+-- the list whole
+answers-shown : (image memory : List ℕ) (list : List Place) → byteWrites list && usesEeprom (detectSaveType image) ≡ false → Shows image memory list
+unfolding playAll turns
+answers-shown image memory [] w s r = ending-shown image memory s r
+answers-shown image memory (p ∷ list) w s r =
+    let e : Bool = usesEeprom (detectSaveType image) in
+    let b = both-false (isWrite (p .item)) (byteWrites list) e (writes-more p list e w) in
+    item-shown image memory list (cutsInFront list) s r (answers-shown image memory list (b .1)) (p .item) (p .bytes) (b .0)
+
+-- a byte write among the calls is one among the items
+anyWrite : List Call → Bool
+anyWrite [] = false
+anyWrite (c ∷ calls) = isByteWrite c || anyWrite calls
+
+mem-any : {a v : ℕ} {calls : List Call} → List·Memᴰ (saveWrite a v) calls → anyWrite calls ≡ true
+unfolding anyWrite
+mem-any (List·Memᴰ·head {x = c} {xs = calls} e) = let w : isByteWrite c ≡ true = ap isByteWrite (sym e) in rw w
+mem-any (List·Memᴰ·tail {x = c} {xs = calls} d) = cases (isByteWrite c) (λ t. rw t) (λ t. rw t (mem-any d))
+
+turns-write : (i : Item) (l : List ℕ) (k : ℕ) (list : List Turn) → anyWrite (map (λ t. t .call) (turnOr i l k list)) ≡ (isWrite i || anyWrite (map (λ t. t .call) list))
+unfolding anyWrite
+turns-write (SaveRead a) l k list = refl
+turns-write (SaveWrite a v) l k list = refl
+turns-write EepromRead l k list = refl
+turns-write (EepromWrite v) l k list = refl
+turns-write (BeginDma words) l k list = refl
+turns-write TakeFlag l k list = refl
+turns-write ChipState l k list = refl
+turns-write (LoadSave n) l k list = refl
+turns-write (SaveData n) l k list = refl
+turns-write Cut l k list = refl
+turns-write Bad l k list = refl
+
+writes-alike : (list : List Place) → anyWrite (map (λ t. t .call) (turns list)) ≡ byteWrites list
+unfolding turns byteWrites anyWrite
+writes-alike [] = refl
+writes-alike (p ∷ list) = turns-write (p .item) (p .bytes) (cutsInFront list) (turns list) ∙ ap (λ (b : Bool). isWrite (p .item) || b) (writes-alike list)
+
+no-writes : (image : List ℕ) (list : List Place) → byteWrites list && usesEeprom (detectSaveType image) ≡ false
+    → (a v : ℕ) → List·Memᴰ (saveWrite a v) (map (λ t. t .call) (turns list)) → usesEeprom (detectSaveType image) ≡ false
+no-writes image list w a v m = let b : byteWrites list ≡ true = sym (writes-alike list) ∙ mem-any m in rw b at w
+
+module _ (image bytes memory scratch out : List ℕ) (h : replay.replay image bytes memory scratch out .0 ≡ 0) where
+  abbrev number : ℕ
+  number = asked (replayQuestions image bytes memory (length scratch) (length out))
+
+  abbrev list : List Turn
+  list = turns (items 0 bytes)
+
+  abbrev s : State
+  s = fromBytes image memory .next
+
+  accepts : number ≡ 0
+  unfolding replay.replay
+  accepts = cases (eqb number 0) (λ t. eqb-true number 0 t) (λ t. rw t at h)
+
+  w : byteWrites (items 0 bytes) && usesEeprom (detectSaveType image) ≡ false
+  w = no-byte-write image bytes memory scratch out number refl accepts
+
+  without-cuts : replay.replay image bytes memory scratch out .3 ≡ into (encoded (length memory) list (run image memory (uncut list) s)) out
+  unfolding replay.replay uncutRun
+  without-cuts =
+      let f = next-fresh image bytes memory scratch out number refl accepts in
+      let r : Recoverable image s = subst (Recoverable image) (sym f) (fresh-stands image memory (opens image bytes memory scratch out number refl accepts memory refl)) in
+      rw accepts
+      (ap (λ (l : List ℕ). into l out)
+      (answers-shown image memory (items 0 bytes) w s r
+      ∙ ap (λ (n : ℕ). encoded n list (run image memory (uncut list) s)) (sym (memory-length image bytes memory scratch out number refl accepts))))
+
+  with-cuts : replay.replay image bytes memory scratch out .3 ≡ into (encoded (length memory) list (run image memory list s)) out
+  with-cuts =
+      without-cuts
+      ∙ ap (λ (r : Compared). into (encoded (length memory) list r) out)
+      (sym (cut-runs image memory list (opens-here image bytes memory scratch out number refl accepts) (no-writes image (items 0 bytes) w)))
+
+pub replay-runs : ReplayRuns
+replay-runs = record { withoutCuts = without-cuts; withCuts = with-cuts }
