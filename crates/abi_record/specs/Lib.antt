@@ -1,3 +1,4 @@
 pub mod RecordBytes
 pub mod Places
+pub mod QuickTests
 pub mod Claims

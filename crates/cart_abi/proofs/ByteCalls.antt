@@ -1,18 +1,20 @@
 -- The byte calls, made on the bytes as they are lent. Assumes nothing.
-use mathlib.Core.Path.{_≡_, refl, sym}
+use mathlib.Core.Path.{_≡_, refl, sym, _∙_}
 use mathlib.Core.Logic.{_≢_}
 use mathlib.Core.Bool.{true}
 use mathlib.Core.List.{List, []}
 use Prim.Native.Nat.{ℕ}
 use native.Mathlib.Omega.{arith}
+use lib.Dec.{eqb}
 use lib.ListN.{length, getD}
-use borrow.Author.Tests.{eq-eqb, ne-eqb}
+use borrow.Author.Tests.{eq-eqb, ne-eqb, eqb-true, eqb-false}
+use Rattle.lists.proofs.Bools.{split}
 use Rattle.kind.specs.Kind.{memorySize}
 use Rattle.cart.specs.Record.{recordAllowed}
 use Rattle.cart.specs.Calls.{saveRead, saveWrite, readSave, writeSave, questions, accepted, step}
 use Rattle.cart.proofs.Replies.{step-no, step-yes}
 use Rattle.abi_record.specs.RecordBytes.{recordBytes, kindOf, cartOf, isRecord}
-use Rattle.in_place.specs.InPlace.{stateOf, bytesOf}
+use Rattle.in_place.specs.InPlace.{stateOf, bytesOf, heldAt, readAt}
 use Rattle.cart_abi.specs.Abi.{called, calledAt}
 
 module _ (r m : List ℕ) (h : isRecord r ≡ true) (g : (recordAllowed (cartOf r) ≡ true) × (recordBytes (cartOf r) ≡ r)) where
@@ -45,3 +47,13 @@ module _ (r m : List ℕ) (h : isRecord r ≡ true) (g : (recordAllowed (cartOf 
     read-yes a place e =
         rw (h, step-yes (saveRead a) [] (stateOf r m) 0 (rw (g .0, eq-eqb (length m) (memorySize (kindOf (getD r 4 0))) n)) refl)
         (λ i. (0, sym (g .1) i, m, e i))
+
+  -- question 3 and the byte
+  pub read-held : (a place : ℕ) {x p : ℕ} → _≡_ {A = ℕ × ℕ} (x, p) (readAt (kindOf (getD r 4 0)) (stateOf r m) a place)
+      → (x, r, m, p) ≡ calledAt (step (saveRead a) []) r m place
+  unfolding heldAt
+  read-held a place e =
+      (λ i. (e i .0, r, m, e i .1))
+      ∙ split (λ (q : ℕ × ℕ). (q .0, r, m, q .1) ≡ calledAt (step (saveRead a) []) r m place) (eqb (length m) (memorySize (kindOf (getD r 4 0))))
+      (λ t. read-yes (eqb-true (length m) (memorySize (kindOf (getD r 4 0))) t) a place refl)
+      (λ t. read-no (eqb-false (length m) (memorySize (kindOf (getD r 4 0))) t) a place)

@@ -1,7 +1,13 @@
 -- The byte calls on the 24 bytes of a record as they are lent.
+use mathlib.Core.Bool.{cond}
 use mathlib.Core.List.{List}
 use Prim.Native.Nat.{ℕ}
+use lib.Dec.{eqb}
+use lib.ListN.{length}
+use Rattle.kind.specs.declared.SaveType.{SaveType}
+use Rattle.kind.specs.Kind.{memorySize}
 use Rattle.cart.specs.Record.{State}
+use Rattle.cart.specs.Calls.{readSave}
 use Rattle.cart.specs.Replies.{state}
 use Rattle.abi_record.specs.RecordBytes.{recordBytes, cartOf}
 
@@ -11,3 +17,10 @@ stateOf r m = state (cartOf r) m
 
 abbrev pub bytesOf : State → List ℕ × List ℕ
 bytesOf s = (recordBytes (s .cart), s .memory)
+
+-- a byte read from a memory that is to have that size: 0 and the byte at the place, or 3 and the place as it was
+unfoldable pub heldAt : ℕ → List ℕ → ℕ → ℕ → ℕ × ℕ
+heldAt size m byte place = cond (eqb (length m) size) (0, byte) (3, place)
+
+abbrev pub readAt : SaveType → State → ℕ → ℕ → ℕ × ℕ
+readAt kind s address place = heldAt (memorySize kind) (s .memory) (readSave kind s address) place

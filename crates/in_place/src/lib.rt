@@ -11,13 +11,13 @@ use memory::put_byte;
 ghost use mathlib.Core.Path.{_≡_};
 ghost use mathlib.Core.Bool.{true};
 ghost use Prim.Native.Nat.{_%_, _<_};
-ghost use lib.ListN.{length, set};
+ghost use lib.ListN.{length, getD, set};
 ghost use Rattle.kind.specs.Kind.{memorySize};
-ghost use Rattle.flash.specs.Flash.{writeByte};
+ghost use Rattle.flash.specs.Flash.{flashRead, writeByte};
 ghost use Rattle.cart.specs.ChipState.{bit as bit·spec};
-ghost use Rattle.cart.specs.Calls.{withFlash, flashOf, readSave, writeSave};
-ghost use Rattle.abi_record.specs.RecordBytes.{cartOf, isRecord};
-ghost use Rattle.in_place.specs.InPlace.{stateOf, bytesOf};
+ghost use Rattle.cart.specs.Calls.{withFlash, flashOf, writeSave};
+ghost use Rattle.abi_record.specs.RecordBytes.{kindOf, cartOf, isRecord};
+ghost use Rattle.in_place.specs.InPlace.{stateOf, bytesOf, heldAt, readAt};
 
 fn flash_in(cart: &[u8]) -> Flash
     requires { ⌜ length (now cart) ≡ 24 ⌝ }
@@ -63,24 +63,70 @@ pub fn write_in_place(kind: SaveType, cart: &mut [u8], memory: &mut [u8], addres
             put_byte(memory, (address % 32768) as usize, value);
             cart[5] = 1;
         }
-        SaveType::Flash64 => write_flash(cart, memory, address, value),
-        SaveType::Flash128 => write_flash(cart, memory, address, value),
-        SaveType::Eeprom512 => put_byte(memory, (address % 8192) as usize, value),
-        SaveType::Eeprom8k => put_byte(memory, (address % 8192) as usize, value),
+        SaveType::Flash64 | SaveType::Flash128 => write_flash(cart, memory, address, value),
+        SaveType::Eeprom512 | SaveType::Eeprom8k => {
+            put_byte(memory, (address % 8192) as usize, value)
+        }
     }
 }
 
-// The byte at an address.
-pub fn read_in_place(kind: SaveType, cart: &[u8], memory: &[u8], address: u32) -> u8
-    requires { ⌜ (length (now cart) ≡ 24) × (length (now memory) ≡ memorySize kind) ⌝ }
-    ensures { λ r. ⌜ r ≡ readSave kind (stateOf (now (cart .entry)) (now (memory .entry))) address ⌝ }
+// A byte of a memory that is to have that size, or question 3.
+fn plain_read(size: u32, memory: &[u8], address: u32, value: &mut u32) -> u32
+    requires { ⌜ 0 < size ⌝ }
+    ensures { λ x. ⌜ (x, now (value .exit)) ≡ heldAt size (now (memory .entry)) (getD (now (memory .entry)) (address % size) 0) (now (value .entry)) ⌝ }
 {
-    match kind {
-        SaveType::None => 0xFF,
-        SaveType::Sram => memory[(address % 32768) as usize],
-        SaveType::Flash64 => flash_read(0x1B32, flash_in(cart), memory, address),
-        SaveType::Flash128 => flash_read(0x1362, flash_in(cart), memory, address),
-        SaveType::Eeprom512 => memory[(address % 8192) as usize],
-        SaveType::Eeprom8k => memory[(address % 8192) as usize],
+    if memory.len() != size as usize {
+        return 3;
     }
+    *value = memory[(address % size) as usize] as u32;
+    0
+}
+
+fn flash_kind_read(
+    word: u16,
+    size: usize,
+    cart: &[u8],
+    memory: &[u8],
+    address: u32,
+    value: &mut u32,
+) -> u32
+    requires { ⌜ (length (now cart) ≡ 24) × (0 < size) ⌝ }
+    ensures { λ x. ⌜ (x, now (value .exit)) ≡ heldAt size (now (memory .entry)) (flashRead word (cartOf (now (cart .entry)) .chip .flash) (now (memory .entry)) address) (now (value .entry)) ⌝ }
+{
+    if memory.len() != size {
+        return 3;
+    }
+    *value = flash_read(word, flash_in(cart), memory, address) as u32;
+    0
+}
+
+fn none_read(memory: &[u8], value: &mut u32) -> u32
+    ensures { λ x. ⌜ (x, now (value .exit)) ≡ heldAt 0 (now (memory .entry)) 255 (now (value .entry)) ⌝ }
+{
+    if memory.len() != 0 {
+        return 3;
+    }
+    *value = 0xFF;
+    0
+}
+
+// The byte at an address, or question 3. The kinds by pairs: tests, not a jump through a table.
+pub fn read_in_place(cart: &[u8], memory: &[u8], address: u32, value: &mut u32) -> u32
+    requires { ⌜ length (now cart) ≡ 24 ⌝ }
+    ensures { λ x. ⌜ (x, now (value .exit)) ≡ readAt (kindOf (getD (now (cart .entry)) 4 0)) (stateOf (now (cart .entry)) (now (memory .entry))) address (now (value .entry)) ⌝ }
+{
+    let kind = cart[4];
+    if kind < 2 {
+        if kind == 1 {
+            return plain_read(32768, memory, address, value);
+        }
+        return none_read(memory, value);
+    }
+    if 3 < kind {
+        return plain_read(8192, memory, address, value);
+    }
+    if kind == 2 {
+        return flash_kind_read(0x1B32, 65536, cart, memory, address, value);
+    }
+    flash_kind_read(0x1362, 131072, cart, memory, address, value)
 }

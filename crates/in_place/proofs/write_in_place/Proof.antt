@@ -1,13 +1,14 @@
-use mathlib.Core.Path.{sym, ap, _∙_}
+use mathlib.Core.Path.{_≡_, refl, sym, ap, _∙_}
 use mathlib.Core.List.{List}
-use Prim.Native.Nat.{ℕ}
+use Prim.Native.Nat.{ℕ, _%_, _<_}
 use native.Mathlib.Omega.{arith}
-use lib.ListN.{set}
+use lib.ListN.{length, set}
 use Rattle.kind.specs.declared.SaveType.{SaveType}
 use Rattle.kind.specs.Kind.{memorySize}
 use Rattle.cart.specs.Calls.{writeSave}
 use Rattle.in_place.specs.InPlace.{stateOf, bytesOf}
 use Rattle.in_place.proofs.Bytes.{back, flag-byte}
+use Rattle.in_place.proofs.ByKind.{flash-arm, eeprom-arm, flash-same, eeprom-same}
 use borrow.Author.Needs.{needs}
 use Rattle.in_place.proofs.write_in_place.Statement.{statement}
 use Rattle.in_place.proofs.write_in_place.Tie as tie
@@ -16,16 +17,17 @@ put-byte-requires : tie.Need-put-byte-requires
 put-byte-requires c κs = omega (arith, c .before .before .before .before .before .pre .2 ∙ ap memorySize (c .before .enum-told2 .given .1))
 
 write-flash-requires : tie.Need-write-flash-requires
-write-flash-requires c κs = let n = c .before .before .before .before .before .before .pre .2 ∙ ap memorySize (c .before .before .enum-told3 .given .1) in (c .before .before .before .before .before .before .pre .0, c .before .before .before .before .before .before .pre .1, omega (arith, n), omega (arith, n))
-
-write-flash-requires-2 : tie.Need-write-flash-requires-2
-write-flash-requires-2 c κs = let n = c .before .before .before .before .before .before .pre .2 ∙ ap memorySize (c .before .before .enum-told4 .given .1) in (c .before .before .before .before .before .before .pre .0, c .before .before .before .before .before .before .pre .1, omega (arith, n), omega (arith, n))
+write-flash-requires c κs =
+    let a = c .before .before .before .before .before .args in
+    let n = length (a .memory .now) in
+    let q = flash-arm (λ (k : SaveType). n ≡ memorySize k → (0 < n) × (n % 4096 ≡ 0)) (a .kind) (c .before .before .match .keys3) (λ e. (omega (arith, e), omega (arith, e))) (λ e. (omega (arith, e), omega (arith, e))) (c .before .before .before .before .before .pre .2) in
+    (c .before .before .before .before .before .pre .0, c .before .before .before .before .before .pre .1, q .0, q .1)
 
 put-byte-requires-2 : tie.Need-put-byte-requires-2
-put-byte-requires-2 c κs = omega (arith, c .before .before .before .before .before .pre .2 ∙ ap memorySize (c .before .enum-told5 .given .1))
-
-put-byte-requires-3 : tie.Need-put-byte-requires-3
-put-byte-requires-3 c κs = omega (arith, c .before .before .before .before .before .pre .2 ∙ ap memorySize (c .before .enum-told6 .given .1))
+put-byte-requires-2 c κs =
+    let a = c .before .before .before .before .args in
+    let n = length (a .memory .now) in
+    eeprom-arm (λ (k : SaveType). n ≡ memorySize k → a .address % 8192 < n) (a .kind) (c .before .match .keys4) (λ e. omega (arith, e)) (λ e. omega (arith, e)) (c .before .before .before .before .pre .2)
 
 returns : tie.Need-returns
 unfolding writeSave
@@ -47,32 +49,17 @@ returns-2 c =
 returns-3 : tie.Need-returns-3
 unfolding writeSave
 returns-3 c =
-    let a = c .before .before .before .before .before .before .before .before .before .before .before .args in
+    let a = c .before .before .before .before .before .before .before .before .before .before .args in
     c .before .before .before .before .write-flash .ensures
-    ∙ ap (λ (kind : SaveType). bytesOf (writeSave kind (stateOf (a .cart .now) (a .memory .now)) (a .address) (a .value))) (sym (c .before .before .before .before .before .before .before .enum-told3 .given .1))
+    ∙ flash-same (λ (k : SaveType). bytesOf (writeSave k (stateOf (a .cart .now) (a .memory .now)) (a .address) (a .value))) (a .kind) (c .before .before .before .before .before .before .before .match .keys3) refl
 
 returns-4 : tie.Need-returns-4
 unfolding writeSave
 returns-4 c =
-    let a = c .before .before .before .before .before .before .before .before .before .before .before .args in
-    c .before .before .before .before .write-flash2 .ensures
-    ∙ ap (λ (kind : SaveType). bytesOf (writeSave kind (stateOf (a .cart .now) (a .memory .now)) (a .address) (a .value))) (sym (c .before .before .before .before .before .before .before .enum-told4 .given .1))
-
-returns-5 : tie.Need-returns-5
-unfolding writeSave
-returns-5 c =
-    let a = c .before .before .before .before .before .before .before .before .args in
-    let b = back (a .cart .now) (λ i. omega (arith, c .before .before .before .before .before .before .before .slice-known .given i)) (c .before .before .before .before .before .before .before .before .pre .1) in
+    let a = c .before .before .before .before .before .before .before .args in
+    let b = back (a .cart .now) (λ i. omega (arith, c .before .before .before .before .before .before .slice-known .given i)) (c .before .before .before .before .before .before .before .pre .1) in
     (λ i. (sym b i, c .before .before .put-byte2 .ensures i))
-    ∙ ap (λ (kind : SaveType). bytesOf (writeSave kind (stateOf (a .cart .now) (a .memory .now)) (a .address) (a .value))) (sym (c .before .before .before .before .enum-told5 .given .1))
-
-returns-6 : tie.Need-returns-6
-unfolding writeSave
-returns-6 c =
-    let a = c .before .before .before .before .before .before .before .before .args in
-    let b = back (a .cart .now) (λ i. omega (arith, c .before .before .before .before .before .before .before .slice-known .given i)) (c .before .before .before .before .before .before .before .before .pre .1) in
-    (λ i. (sym b i, c .before .before .put-byte3 .ensures i))
-    ∙ ap (λ (kind : SaveType). bytesOf (writeSave kind (stateOf (a .cart .now) (a .memory .now)) (a .address) (a .value))) (sym (c .before .before .before .before .enum-told6 .given .1))
+    ∙ eeprom-same (λ (k : SaveType). bytesOf (writeSave k (stateOf (a .cart .now) (a .memory .now)) (a .address) (a .value))) (a .kind) (c .before .before .before .before .match .keys4) refl
 
 pub write-in-place-spec : {M : Type 1} → statement M
 write-in-place-spec =
@@ -83,16 +70,9 @@ write-in-place-spec =
     (λ c. search needs)
     put-byte-requires
     (λ c. search needs)
-    (λ c. search needs)
     write-flash-requires
     (λ c. search needs)
-    write-flash-requires-2
-    (λ c. search needs)
-    (λ c. search needs)
     put-byte-requires-2
-    (λ c. search needs)
-    (λ c. search needs)
-    put-byte-requires-3
     returns
     (λ c. search needs)
     (λ c. search needs)
@@ -101,9 +81,4 @@ write-in-place-spec =
     (λ c. search needs)
     returns-3
     (λ c. search needs)
-    (λ c. search needs)
-    returns-4
-    (λ c. search needs)
-    returns-5
-    (λ c. search needs)
-    returns-6)
+    returns-4)

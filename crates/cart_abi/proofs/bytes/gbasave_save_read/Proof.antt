@@ -1,42 +1,60 @@
-use mathlib.Core.Path.{sym, ap, _∙_}
-use mathlib.Core.List.{[]}
-use Rattle.kind.specs.declared.SaveType.{SaveType}
-use Rattle.kind.specs.Kind.{memorySize}
-use Rattle.cart.specs.Calls.{saveRead, readSave, step}
-use Rattle.in_place.specs.InPlace.{stateOf}
-use Rattle.lists.proofs.Bools.{denied, granted}
-use Rattle.cart_abi.proofs.Calls.{called-at-no}
-use Rattle.cart_abi.proofs.ByteCalls.{read-no, read-yes}
+use Rattle.lists.proofs.Bools.{granted}
+use mathlib.Core.Path.{refl, sym, ap, _∙_}
+use Rattle.cart_abi.proofs.ByteCalls.{read-held}
 use borrow.Author.Needs.{needs}
 use Rattle.cart_abi.proofs.bytes.gbasave_save_read.Statement.{statement}
 use Rattle.cart_abi.proofs.bytes.gbasave_save_read.Tie as tie
+use Rattle.cart_abi.proofs.bytes.gbasave_save_read.Reads as reads
+use Rattle.cart_abi.proofs.bytes.gbasave_save_read.Lts as lts
+use Rattle.abi_record.proofs.byte_usual.Reads as byte-usual-reads
+use Rattle.abi_record.proofs.known.Reads as known-reads
+use Rattle.cart_abi.proofs.bytes.read_any.Reads as read-any-reads
+use Rattle.in_place.proofs.read_in_place.Reads as read-in-place-reads
 
+-- src/bytes.rt:36:9
+known-requires : tie.Need-known-requires
+known-requires c κs = search needs
+
+-- src/bytes.rt:37:9
+read-any-requires : tie.Need-read-any-requires
+read-any-requires c κs = search needs
+
+-- src/bytes.rt:37:9
 returns : tie.Need-returns
-returns c = let a = c .before .before .before .args in called-at-no (step (saveRead (a .address)) []) (a .cart .now) (a .memory .now) (a .value .now) (denied _ (c .before .is-record .ensures .0) (c .if1 .taken))
+returns c = search needs
 
+-- src/bytes.rt:39:9
+byte-usual-requires : tie.Need-byte-usual-requires
+byte-usual-requires c κs = search needs
+
+-- src/bytes.rt:40:9
+read-any-requires-2 : tie.Need-read-any-requires-2
+read-any-requires-2 c κs = search needs
+
+-- src/bytes.rt:40:9
 returns-2 : tie.Need-returns-2
-returns-2 c =
-    let a = c .before .before .before .before .before .before .before .args in
-    let h = granted _ (c .before .before .before .before .before .is-record .ensures .0) (c .before .before .before .before .if1 .left) in
-    read-no (a .cart .now) (a .memory .now) h (c .before .before .before .before .before .is-record .ensures .1 h) (λ e. c .if2 .taken (e ∙ sym (c .before .memory-size .ensures ∙ ap memorySize (c .before .before .kind-of .ensures)))) (a .address) (a .value .now)
+returns-2 c = search needs
 
+-- src/bytes.rt:42:5
+read-in-place-requires : tie.Need-read-in-place-requires
+read-in-place-requires c κs = search needs
+
+-- src/bytes.rt:27:1
 returns-3 : tie.Need-returns-3
-returns-3 c =
-    let a = c .before .before .before .before .before .before .before .before .before .args in
-    let h = granted _ (c .before .before .before .before .before .before .before .is-record .ensures .0) (c .before .before .before .before .before .before .if1 .left) in
-    read-yes (a .cart .now) (a .memory .now) h (c .before .before .before .before .before .before .before .is-record .ensures .1 h) (c .before .before .if2 .left ∙ c .before .before .before .memory-size .ensures ∙ ap memorySize (c .before .before .before .before .kind-of .ensures)) (a .address) (a .value .now)
-    (c .read-in-place .ensures ∙ ap (λ (k : SaveType). readSave k (stateOf (a .cart .now) (a .memory .now)) (a .address)) (c .before .before .before .before .kind-of .ensures))
+returns-3 c = let h = c .before .before .before .before .byte-usual .ensures (granted _ refl (c .before .before .before .if2 .left)) (granted _ (c .before .before .before .before .before .before .known .ensures .0) (c .before .before .before .before .before .if1 .left)) in
+    let g = c .before .before .before .before .before .before .known .ensures .1 h in
+    let a = c .before .before .before .before .before .before .before .before .args in
+    read-held (a .cart .now) (a .memory .now) h g (a .address) (a .value .now) (c .read-in-place .ensures)
 
 pub gbasave-save-read-spec : {M : Type 1} → statement M
 gbasave-save-read-spec =
     tie.close
     (tie.spec
-    (λ c κs. search needs)
+    known-requires
+    read-any-requires
     returns
-    (λ c. search needs)
-    (λ c κs. search needs)
-    (λ c κs. search needs)
+    byte-usual-requires
+    read-any-requires-2
     returns-2
-    (λ c κs. search needs)
-    (λ c. search needs)
+    read-in-place-requires
     returns-3)

@@ -1,47 +1,73 @@
-use mathlib.Core.Path.{sym, ap, _∙_}
-use mathlib.Core.List.{[]}
-use Rattle.kind.specs.declared.SaveType.{SaveType}
-use Rattle.kind.specs.Kind.{memorySize}
-use Rattle.cart.specs.Calls.{saveWrite, writeSave, step}
-use Rattle.in_place.specs.InPlace.{stateOf, bytesOf}
-use Rattle.lists.proofs.Bools.{denied, granted}
-use Rattle.cart_abi.proofs.Calls.{called-no}
-use Rattle.cart_abi.proofs.ByteCalls.{write-no, write-yes}
+use Rattle.lists.proofs.Bools.{granted}
+use mathlib.Core.Path.{refl}
 use borrow.Author.Needs.{needs}
 use Rattle.cart_abi.proofs.bytes.gbasave_save_write.Statement.{statement}
 use Rattle.cart_abi.proofs.bytes.gbasave_save_write.Tie as tie
+use Rattle.cart_abi.proofs.bytes.gbasave_save_write.Reads as reads
+use Rattle.cart_abi.proofs.bytes.gbasave_save_write.Lts as lts
+use Rattle.abi_record.proofs.byte_usual.Reads as byte-usual-reads
+use Rattle.abi_record.proofs.known.Reads as known-reads
+use Rattle.cart_abi.proofs.bytes.write_any.Reads as write-any-reads
+use Rattle.cart_abi.proofs.bytes.write_record.Reads as write-record-reads
 
+-- src/bytes.rt:76:9
+known-requires : tie.Need-known-requires
+known-requires c κs = search needs
+
+-- src/bytes.rt:77:9
+write-any-requires : tie.Need-write-any-requires
+write-any-requires c κs = search needs
+
+-- src/bytes.rt:77:9
+same-length : tie.Need-same-length
+same-length c = search needs
+
+-- src/bytes.rt:77:9
 returns : tie.Need-returns
-returns c = let a = c .before .before .before .before .args in called-no (step (saveWrite (a .address) (a .value)) []) (a .cart .now) (a .memory .now) (denied _ (c .before .is-record .ensures .0) (c .if1 .taken))
+returns c = search needs
 
+-- src/bytes.rt:79:9
+byte-usual-requires : tie.Need-byte-usual-requires
+byte-usual-requires c κs = search needs
+
+-- src/bytes.rt:80:9
+write-any-requires-2 : tie.Need-write-any-requires-2
+write-any-requires-2 c κs = search needs
+
+-- src/bytes.rt:80:9
+same-length-2 : tie.Need-same-length-2
+same-length-2 c = search needs
+
+-- src/bytes.rt:80:9
 returns-2 : tie.Need-returns-2
-returns-2 c =
-    let a = c .before .before .before .before .before .before .before .before .args in
-    let h = granted _ (c .before .before .before .before .before .is-record .ensures .0) (c .before .before .before .before .if1 .left) in
-    write-no (a .cart .now) (a .memory .now) h (c .before .before .before .before .before .is-record .ensures .1 h) (λ e. c .if2 .taken (e ∙ sym (c .before .memory-size .ensures ∙ ap memorySize (c .before .before .kind-of .ensures)))) (a .address) (a .value)
+returns-2 c = search needs
 
-write-in-place-requires : tie.Need-write-in-place-requires
-write-in-place-requires c κs =
-    let h = granted _ (c .before .before .before .before .before .before .before .is-record .ensures .0) (c .before .before .before .before .before .before .if1 .left) in
-    (search needs, h, c .before .before .if2 .left ∙ c .before .before .before .memory-size .ensures)
+-- src/bytes.rt:82:5
+write-record-requires : tie.Need-write-record-requires
+write-record-requires c κs = let h = c .before .before .before .byte-usual .ensures (granted _ refl (c .before .before .if2 .left)) (granted _ (c .before .before .before .before .before .before .known .ensures .0) (c .before .before .before .before .before .if1 .left)) in
+    let g = c .before .before .before .before .before .before .known .ensures .1 h in
+    (h, g .0, g .1)
 
+-- src/bytes.rt:67:1
+same-length-3 : tie.Need-same-length-3
+same-length-3 c = search needs
+
+-- src/bytes.rt:67:1
 returns-3 : tie.Need-returns-3
-returns-3 c =
-    let a = c .before .before .before .before .before .before .before .before .before .before .before .before .before .args in
-    let h = granted _ (c .before .before .before .before .before .before .before .before .before .before .is-record .ensures .0) (c .before .before .before .before .before .before .before .before .before .if1 .left) in
-    write-yes (a .cart .now) (a .memory .now) h (c .before .before .before .before .before .before .before .before .before .before .is-record .ensures .1 h) (c .before .before .before .before .before .if2 .left ∙ c .before .before .before .before .before .before .memory-size .ensures ∙ ap memorySize (c .before .before .before .before .before .before .before .kind-of .ensures)) (a .address) (a .value)
-    (c .before .before .write-in-place .ensures ∙ ap (λ (k : SaveType). bytesOf (writeSave k (stateOf (a .cart .now) (a .memory .now)) (a .address) (a .value))) (c .before .before .before .before .before .before .before .kind-of .ensures))
+returns-3 c = search needs
 
 pub gbasave-save-write-spec : {M : Type 1} → statement M
 gbasave-save-write-spec =
     tie.close
     (tie.spec
-    (λ c κs. search needs)
+    known-requires
+    write-any-requires
+    same-length
     returns
-    (λ c. search needs)
-    (λ c κs. search needs)
-    (λ c κs. search needs)
+    byte-usual-requires
+    write-any-requires-2
+    same-length-2
     returns-2
-    write-in-place-requires
-    (λ c. search needs)
+    write-record-requires
+    same-length-3
     returns-3)
