@@ -1,5 +1,6 @@
 -- The quick tests imply question 2. Assumes nothing.
 use mathlib.Core.Path.{_≡_, refl, sym, _∙_}
+use mathlib.Core.Logic.{_≢_}
 use mathlib.Core.Bool.{Bool, true, false, _&&_, true≢false}
 use mathlib.Core.List.{List}
 use Prim.Native.Nat.{ℕ, _+_, _*_, _≤_, _<_}
@@ -7,10 +8,10 @@ use native.Mathlib.Omega.{arith}
 use lib.Dec.{leb, eqb}
 use lib.ListN.{length, getD, take, drop, length-drop}
 use lib.Seq.{getD-drop}
-use borrow.Author.Tests.{le-leb, lt-leb, lt-ltb, eqb-false}
+use borrow.Author.Tests.{le-leb, lt-leb, lt-ltb, eqb-false, ne-eqb}
 use Rattle.lists.specs.Lists.{lowValue}
 use Rattle.lists.specs.Questions.{asked}
-use Rattle.lists.proofs.Bools.{split, and-left, and-right}
+use Rattle.lists.proofs.Bools.{split, cases, and-left, and-right}
 use Rattle.image.specs.Image.{imageLength}
 use Rattle.flash.specs.Flash.{stateAllowed}
 use Rattle.eeprom.specs.declared.EepromPhase.{EepromPhase}
@@ -18,7 +19,7 @@ use Rattle.eeprom.specs.declared.EepromPhase.the-variants.{Opcode, ReadAddress,
 use Rattle.eeprom.specs.Eeprom.{widthAllowed, w, countLimit}
 use Rattle.cart.specs.ChipState.{phaseOf, stateQuestions}
 use Rattle.abi_record.specs.RecordBytes.{isRecord}
-use Rattle.abi_record.specs.QuickTests.{isKnown, FlashUsual, FieldsUsual, SerialRests, CountAllowed}
+use Rattle.abi_record.specs.QuickTests.{isKnown, FlashUsual, FieldsUsual, SerialRests, CountAllowed, WantsMore}
 
 -- a test that says no shows nothing
 pub never : {P : Type 0} → false ≡ true → P
@@ -91,3 +92,27 @@ rests-record r n f h s =
       place = omega (arith, s .place);
     })
     (count-zero (getD r 11 0) (getD r 12 0) (omega (arith, s .phase)) (s .count) (getD r 9 0) (eqb (getD r 10 0) 1))
+
+-- one bit more
+pub data-more : (phase count w : ℕ) → phase ≡ 3 → count < 63 → (phase ≤ 3) × (count + 1 < countLimit (phaseOf phase) w)
+unfolding phaseOf
+data-more phase count w e l = (omega (arith, e), rw e (omega arith))
+
+pub opcode-more : (phase count w : ℕ) → phase ≡ 0 → count ≡ 0 → (phase ≤ 3) × (count + 1 < countLimit (phaseOf phase) w)
+unfolding phaseOf
+opcode-more phase count w e z = (omega (arith, e), rw (e, z) (omega arith))
+
+pub address-more : (phase count w : ℕ) → phase ≢ 3 → phase ≢ 0 → phase ≤ 3 → count + 1 < w → (phase ≤ 3) × (count + 1 < countLimit (phaseOf phase) w)
+unfolding phaseOf
+address-more phase count w h z p l =
+    (p, cases (eqb phase 1) (λ e. rw (ne-eqb phase 0 z, e) l) (λ e. let k : phase ≡ 2 = omega (arith, eqb-false phase 1 e, h, z) in rw k l))
+
+pub more-record : (r : List ℕ) → FieldsUsual r → getD r 12 0 ≤ 63
+    → (getD r 11 0 ≤ 3) × (getD r 12 0 + 1 < countLimit (phaseOf (getD r 11 0)) (w (getD r 9 0) (eqb (getD r 10 0) 1)))
+    → isKnown r ≡ true
+    → (isRecord r ≡ true) × WantsMore r
+more-record r f c k h =
+    (
+      usual-record r f (omega (arith, k .0), omega arith, lt-ltb (getD r 12 0) _ (omega (arith, k .1))) h,
+      record { small = c; below = k .1 },
+    )

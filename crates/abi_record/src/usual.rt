@@ -1,5 +1,6 @@
 // Quick tests of the records that calls usually meet. They say yes only where question 2 does; neighbouring bytes are joined to one number and
 // compared once.
+use eeprom::w;
 use eeprom::width_allowed;
 use flash::state_allowed;
 use image::image_length;
@@ -8,11 +9,13 @@ use lists::low32;
 use lists::low64;
 ghost use mathlib.Core.Path.{_≡_};
 ghost use mathlib.Core.Bool.{Bool, true};
-ghost use Prim.Native.Nat.{ℕ};
+ghost use Prim.Native.Nat.{ℕ, _+_, _<_, _≤_};
 ghost use lib.ListN.{length};
+ghost use Rattle.eeprom.specs.Eeprom.{countLimit};
+ghost use Rattle.cart.specs.ChipState.{phaseOf};
 ghost use Rattle.cart.specs.Record.{recordAllowed};
 ghost use Rattle.abi_record.specs.RecordBytes.{recordBytes, cartOf, isRecord};
-ghost use Rattle.abi_record.specs.QuickTests.{isKnown, FlashUsual, FieldsUsual, SerialRests, CountAllowed};
+ghost use Rattle.abi_record.specs.QuickTests.{isKnown, FlashUsual, FieldsUsual, SerialRests, CountAllowed, WantsMore};
 
 fn known_in(bytes: &[u8]) -> bool
     requires { ⌜ length (now bytes) ≡ 24 ⌝ }
@@ -123,7 +126,7 @@ fn fields_usual_in(bytes: &[u8]) -> bool
 }
 
 // The flash chip is at rest, and the serial chip's fields are allowed, phase and count left out.
-pub fn fields_usual(r: &[u8; 24]) -> bool
+fn fields_usual(r: &[u8; 24]) -> bool
     ensures { λ b. ⌜ (b ≡ true → FieldsUsual (now (r .entry))) ⌝ }
 {
     fields_usual_in(&r[..])
@@ -149,4 +152,33 @@ pub fn serial_usual(r: &[u8; 24]) -> bool
         return false;
     }
     count_usual(r[11], r[12])
+}
+
+// A bit of an opcode, an address or data, and not the last one.
+fn wants_more(phase: u8, count: u8, w: u8) -> bool
+    ensures { λ b. ⌜ (b ≡ true → (phase ≤ 3) × (count + 1 < countLimit (phaseOf phase) w)) ⌝ }
+{
+    if phase == 3 {
+        return count < 63;
+    }
+    if phase == 0 {
+        return count == 0;
+    }
+    if 3 < phase {
+        return false;
+    }
+    count as u16 + 1 < w as u16
+}
+
+// And a bit in is one that more follow.
+pub fn shift_usual(r: &[u8; 24]) -> bool
+    ensures { λ b. ⌜ (b ≡ true → isKnown (now (r .entry)) ≡ true → (isRecord (now (r .entry)) ≡ true) × WantsMore (now (r .entry))) ⌝ }
+{
+    if !fields_usual(r) {
+        return false;
+    }
+    if 63 < r[12] {
+        return false;
+    }
+    wants_more(r[11], r[12], w(r[9], r[10] == 1))
 }

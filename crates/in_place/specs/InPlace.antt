@@ -1,9 +1,9 @@
 -- The byte calls on the 24 bytes of a record as they are lent.
 use mathlib.Core.Bool.{cond}
 use mathlib.Core.List.{List}
-use Prim.Native.Nat.{ℕ}
+use Prim.Native.Nat.{ℕ, _/_, _%_, _^_}
 use lib.Dec.{eqb}
-use lib.ListN.{length}
+use lib.ListN.{length, set}
 use Rattle.kind.specs.declared.SaveType.{SaveType}
 use Rattle.kind.specs.Kind.{memorySize}
 use Rattle.cart.specs.Record.{State}
@@ -24,3 +24,9 @@ heldAt size m byte place = cond (eqb (length m) size) (0, byte) (3, place)
 
 abbrev pub readAt : SaveType → State → ℕ → ℕ → ℕ × ℕ
 readAt kind s address place = heldAt (memorySize kind) (s .memory) (readSave kind s address) place
+
+-- acc's eight bytes among the 24, low byte first
+abbrev pub withAcc : List ℕ → ℕ → List ℕ
+withAcc r acc =
+    set (set (set (set (set (set (set (set r 16 (acc % 256)) 17 (acc / 2 ^ 8 % 256)) 18 (acc / 2 ^ 16 % 256)) 19 (acc / 2 ^ 24 % 256)) 20 (acc / 2 ^ 32 % 256))
+    21 (acc / 2 ^ 40 % 256)) 22 (acc / 2 ^ 48 % 256)) 23 (acc / 2 ^ 56 % 256)

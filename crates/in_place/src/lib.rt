@@ -1,4 +1,6 @@
-// The byte calls on the 24 bytes of a record as they are lent: only what a call reads is taken out, and only what it changes is written.
+// The byte calls and serial bits on the 24 bytes of a record as they are lent: only what a call reads is taken out, and only what it changes is written.
+
+mod serial;
 
 use cart::bit;
 use flash::Flash;
@@ -8,6 +10,8 @@ use kind::SaveType;
 use memory::apply;
 use memory::dirty_behind;
 use memory::put_byte;
+pub use serial::draw_in_place;
+pub use serial::shift_in_place;
 ghost use mathlib.Core.Path.{_≡_};
 ghost use mathlib.Core.Bool.{true};
 ghost use Prim.Native.Nat.{_%_, _<_};

@@ -1,0 +1,12 @@
+use Rattle.eeprom.proofs.Bits.{put-in}
+use Rattle.in_place.proofs.serial.shifted.Statement.{statement}
+use Rattle.in_place.proofs.serial.shifted.Tie as tie
+use Rattle.in_place.proofs.serial.shifted.Reads as reads
+use Rattle.in_place.proofs.serial.shifted.Lts as lts
+
+-- src/serial.rt:15:1
+returns : tie.Need-returns
+returns c = put-in (c .args .acc) (c .args .b) (c .pre)
+
+pub shifted-spec : {M : Type 1} → statement M
+shifted-spec = tie.close (tie.spec returns)
