@@ -1,7 +1,7 @@
 -- The quick tests imply question 2. Assumes nothing.
 use mathlib.Core.Path.{_≡_, refl, sym, _∙_}
 use mathlib.Core.Logic.{_≢_}
-use mathlib.Core.Bool.{Bool, true, false, _&&_, true≢false}
+use mathlib.Core.Bool.{Bool, true, false, true≢false}
 use mathlib.Core.List.{List}
 use Prim.Native.Nat.{ℕ, _+_, _*_, _≤_, _<_}
 use native.Mathlib.Omega.{arith}
@@ -111,8 +111,7 @@ pub more-record : (r : List ℕ) → FieldsUsual r → getD r 12 0 ≤ 63
     → (getD r 11 0 ≤ 3) × (getD r 12 0 + 1 < countLimit (phaseOf (getD r 11 0)) (w (getD r 9 0) (eqb (getD r 10 0) 1)))
     → isKnown r ≡ true
     → (isRecord r ≡ true) × WantsMore r
-more-record r f c k h =
-    (
-      usual-record r f (omega (arith, k .0), omega arith, lt-ltb (getD r 12 0) _ (omega (arith, k .1))) h,
-      record { small = c; below = k .1 },
-    )
+more-record r f c k h = (
+  usual-record r f (omega (arith, k .0), omega arith, lt-ltb (getD r 12 0) _ (omega (arith, k .1))) h,
+  record { small = c; below = k .1 },
+)

@@ -1,11 +1,9 @@
 -- Serial bits that change count and acc, or the read place, alone. Assumes nothing.
-use mathlib.Core.Path.{_≡_, refl, sym, ap, subst, _∙_}
-use mathlib.Core.Bool.{Bool, true}
-use mathlib.Core.List.{List, [], _∷_, _++_}
+use mathlib.Core.Path.{_≡_, refl, sym, ap, _∙_}
+use mathlib.Core.List.{List, _∷_, _++_}
 use Prim.Native.Nat.{ℕ, _+_, _*_, _/_, _%_, _^_, _<_}
 use native.Mathlib.Omega.{arith}
-use lib.Dec.{eqb}
-use lib.ListN.{getD, set, drop}
+use lib.ListN.{getD, set}
 use lib.Seq.{getD-drop}
 use borrow.Author.Tests.{ne-eqb}
 use Rattle.lists.specs.Lists.{lowFirst}
@@ -15,7 +13,7 @@ use Rattle.kind.specs.Kind.{kindNumber}
 use Rattle.eeprom.specs.declared.EepromPhase.{EepromPhase}
 use Rattle.eeprom.specs.declared.EepromPhase.the-variants.{Opcode, ReadAddress, WriteAddress, WriteData, ReadStop, WriteStop, Reading}
 use Rattle.eeprom.specs.declared.Eeprom.{Eeprom}
-use Rattle.eeprom.specs.Eeprom.{w, wOf, countLimit, serial, kept, shiftIn, opcodeBit, addressBit, dataBit, writeBitIn, writeBit, bitIn, afterRead}
+use Rattle.eeprom.specs.Eeprom.{wOf, countLimit, serial, kept, shiftIn, opcodeBit, addressBit, dataBit, writeBitIn, writeBit, bitIn, afterRead}
 use Rattle.cart.specs.declared.Cartridge.{Cartridge}
 use Rattle.cart.specs.ChipState.{bit, phaseNumber, phaseOf, chipBytes, chipOf}
 use Rattle.cart.specs.Calls.{eepromOf, withEeprom, withChip}
@@ -50,7 +48,7 @@ reads-phase : (r : List ℕ) → getD r 11 0 ≡ 6 → cartOf r .chip .eeprom .p
 unfolding cartOf chipOf phaseOf
 reads-phase r p = rw (getD-drop 6 r 5 0, p) refl
 
-pub place-field : (r : List ℕ) → cartOf r .chip .eeprom .place ≡ getD r 15 0
+place-field : (r : List ℕ) → cartOf r .chip .eeprom .place ≡ getD r 15 0
 unfolding cartOf chipOf
 place-field r = getD-drop 6 r 9 0
 

@@ -1,5 +1,4 @@
-use mathlib.Core.Path.{sym, ap, _∙_}
-use native.Mathlib.Omega.{arith}
+use mathlib.Core.Path.{ap, _∙_}
 use Prim.Native.Nat.{ℕ}
 use Rattle.flash.specs.declared.Flash.{Flash}
 use Rattle.flash.specs.Flash.{flashRead}
@@ -8,28 +7,10 @@ use Rattle.in_place.proofs.ByKind.{held-yes, held-no}
 use borrow.Author.Needs.{needs}
 use Rattle.in_place.proofs.flash_kind_read.Statement.{statement}
 use Rattle.in_place.proofs.flash_kind_read.Tie as tie
-use Rattle.in_place.proofs.flash_kind_read.Reads as reads
-use Rattle.in_place.proofs.flash_kind_read.Lts as lts
-use Rattle.flash.proofs.flash_read.Reads as flash-read-reads
-use Rattle.in_place.proofs.flash_in.Reads as flash-in-reads
 
--- src/lib.rt:97:9
 returns : tie.Need-returns
 returns c = let a = c .before .before .before .args in held-no (a .size) (a .memory .now) (flashRead (a .word) (cartOf (a .cart .now) .chip .flash) (a .memory .now) (a .address)) (a .value .now) (c .if1 .taken)
 
--- src/lib.rt:99:31
-flash-in-requires : tie.Need-flash-in-requires
-flash-in-requires c κs = search needs
-
--- src/lib.rt:99:14
-flash-read-requires : tie.Need-flash-read-requires
-flash-read-requires c κs = search needs
-
--- src/lib.rt:99:14
-cast-value : tie.Need-cast-value
-cast-value c = search needs
-
--- src/lib.rt:85:1
 returns-2 : tie.Need-returns-2
 returns-2 c = let a = c .before .before .before .before .before .args in
     let e = c .flash-read .ensures ∙ ap (λ (f : Flash). flashRead (a .word) f (a .memory .now) (a .address)) (c .before .flash-in .ensures) in
@@ -37,4 +18,4 @@ returns-2 c = let a = c .before .before .before .before .before .args in
 
 pub flash-kind-read-spec : {M : Type 1} → statement M
 flash-kind-read-spec =
-    tie.close (tie.spec returns flash-in-requires flash-read-requires cast-value returns-2)
+    tie.close (tie.spec returns (λ c κs. search needs) (λ c κs. search needs) (λ c. search needs) returns-2)

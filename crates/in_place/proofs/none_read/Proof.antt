@@ -1,14 +1,10 @@
 use Rattle.in_place.proofs.ByKind.{held-yes, held-no}
 use Rattle.in_place.proofs.none_read.Statement.{statement}
 use Rattle.in_place.proofs.none_read.Tie as tie
-use Rattle.in_place.proofs.none_read.Reads as reads
-use Rattle.in_place.proofs.none_read.Lts as lts
 
--- src/lib.rt:107:9
 returns : tie.Need-returns
 returns c = let a = c .before .args in held-no 0 (a .memory .now) 255 (a .value .now) (c .if1 .taken)
 
--- src/lib.rt:103:1
 returns-2 : tie.Need-returns-2
 returns-2 c = let a = c .before .args in held-yes 0 (a .memory .now) 255 (a .value .now) (c .if1 .left)
 

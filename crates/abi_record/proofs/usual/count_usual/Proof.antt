@@ -2,18 +2,13 @@ use borrow.Author.Tests.{ltb-true, leb-true}
 use Rattle.abi_record.proofs.QuickTests.{never, count-zero, count-data}
 use Rattle.abi_record.proofs.usual.count_usual.Statement.{statement}
 use Rattle.abi_record.proofs.usual.count_usual.Tie as tie
-use Rattle.abi_record.proofs.usual.count_usual.Reads as reads
-use Rattle.abi_record.proofs.usual.count_usual.Lts as lts
 
--- src/usual.rt:135:9
 returns : tie.Need-returns
 returns c = λ e. count-data (c .before .args .phase) (c .before .args .count) (c .if1 .taken) (ltb-true (c .before .args .count) 64 e)
 
--- src/usual.rt:138:9
 returns-2 : tie.Need-returns-2
 returns-2 c = λ e. never e
 
--- src/usual.rt:131:1
 returns-3 : tie.Need-returns-3
 returns-3 c = λ e. count-zero (c .before .before .args .phase) (c .before .before .args .count) (leb-true (c .before .before .args .phase) 6 e) (c .if2 .left)
 

@@ -3,28 +3,18 @@ use Rattle.abi_record.proofs.QuickTests.{never, data-more, opcode-more,
 use borrow.Author.Needs.{needs}
 use Rattle.abi_record.proofs.usual.wants_more.Statement.{statement}
 use Rattle.abi_record.proofs.usual.wants_more.Tie as tie
-use Rattle.abi_record.proofs.usual.wants_more.Reads as reads
-use Rattle.abi_record.proofs.usual.wants_more.Lts as lts
 
--- src/usual.rt:162:9
 returns : tie.Need-returns
 returns c = λ e. data-more (c .before .args .phase) (c .before .args .count) (c .before .args .w) (c .if1 .taken) (ltb-true (c .before .args .count) 63 e)
 
--- src/usual.rt:165:9
 returns-2 : tie.Need-returns-2
 returns-2 c = λ e. opcode-more (c .before .before .args .phase) (c .before .before .args .count) (c .before .before .args .w) (c .if2 .taken) (eqb-true (c .before .before .args .count) 0 e)
 
--- src/usual.rt:168:9
 returns-3 : tie.Need-returns-3
 returns-3 c = λ e. never e
 
--- src/usual.rt:170:5
-add-result : tie.Need-add-result
-add-result c = search needs
-
--- src/usual.rt:158:1
 returns-4 : tie.Need-returns-4
 returns-4 c = λ e. address-more (c .before .before .before .args .phase) (c .before .before .before .args .count) (c .before .before .before .args .w) (c .before .before .if1 .left) (c .before .if2 .left) (c .if3 .left) (ltb-true _ _ e)
 
 pub wants-more-spec : {M : Type 1} → statement M
-wants-more-spec = tie.close (tie.spec returns returns-2 returns-3 add-result returns-4)
+wants-more-spec = tie.close (tie.spec returns returns-2 returns-3 (λ c. search needs) returns-4)
