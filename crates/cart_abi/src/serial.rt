@@ -135,6 +135,6 @@ pub extern "C" fn gbasave_eeprom_read(cart: &mut [u8; 24], memory: &[u8], bit: &
     if 66 < cart[15] {
         return read_any(cart, memory, bit);
     }
-    draw_in_place(&mut cart[..], memory, bit);
+    draw_in_place(&mut cart[..], &memory[..], bit);
     0
 }

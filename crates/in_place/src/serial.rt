@@ -53,6 +53,6 @@ pub fn draw_in_place(cart: &mut [u8], memory: &[u8], bit: &mut u32)
 {
     let chip = chip_of(&cart[6..]);
     let e = chip.eeprom;
-    *bit = read_bit(true, e, memory) as u32;
+    *bit = read_bit(true, e, &memory[..]) as u32;
     cart[15] = e.place + 1;
 }
