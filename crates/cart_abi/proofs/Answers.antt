@@ -1,4 +1,5 @@
 -- Answers by number. Assumes nothing.
+use Rattle.kind.proofs.Sizes.{memory-small}
 use mathlib.Core.Path.{_≡_, refl, ap, _∙_}
 use mathlib.Core.Bool.{true, false, _||_}
 use mathlib.Core.List.{List}
@@ -11,7 +12,7 @@ use Rattle.image.specs.declared.Answer.{Answer}
 use Rattle.image.specs.Image.{imageLength}
 use Rattle.kind.specs.declared.SaveType.{SaveType}
 use Rattle.kind.specs.declared.SaveType.the-variants.{None, Sram, Flash64, Flash128, Eeprom512, Eeprom8k}
-use Rattle.kind.specs.Kind.{kindNumber, memorySize, detectSaveType}
+use Rattle.kind.specs.Kind.{kindNumber, detectSaveType}
 use Rattle.files.specs.declared.SaveFit.{SaveFit}
 use Rattle.files.specs.SaveFit.{chipSize, eepromFit, saveFit, saveSize, saveFitOf, saveSizeOf, taken}
 use Rattle.abi_record.specs.Places.{told}
@@ -23,15 +24,6 @@ answered a place t e = t ∙ ap (λ (b : Answer). answeredAt b place) e
 
 pub titled : (a : Answer) (place : ℕ) {d : List ℕ} {t : Answer × List ℕ} {x p : ℕ} → (x, p) ≡ told (a .refusal) (a .value) place → (a, d) ≡ t → (x, d, p) ≡ titleAt t place
 titled a place {d} u e = ap (λ (l : ℕ × ℕ). (l .0, d, l .1)) u ∙ ap (λ (t : Answer × List ℕ). titleAt t place) e
-
--- no size is above that of the largest memory
-pub memory-le : (k : SaveType) → memorySize k ≤ 131072
-memory-le None = omega arith
-memory-le Sram = omega arith
-memory-le Flash64 = omega arith
-memory-le Flash128 = omega arith
-memory-le Eeprom512 = omega arith
-memory-le Eeprom8k = omega arith
 
 abbrev Small : SaveFit → Type 0
 Small fit = keptLength fit ≤ 131072
@@ -51,7 +43,7 @@ fit-of-le image n = either Small (leb 192 (length image)) (fit-le (detectSaveTyp
 
 pub size-of-le : (image : List ℕ) → saveSizeOf image ≤ 131072
 unfolding saveSizeOf saveSize
-size-of-le image = either (λ n. n ≤ 131072) (leb 192 (length image)) (memory-le (detectSaveType image)) (omega arith)
+size-of-le image = either (λ n. n ≤ 131072) (leb 192 (length image)) (memory-small (detectSaveType image)) (omega arith)
 
 -- the kind of an image
 pub kind-no : (image : List ℕ) (place : ℕ) → imageLength (length image) ≡ false → (1, place) ≡ answeredAt (kindAnswer image) place

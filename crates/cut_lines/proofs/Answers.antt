@@ -1,23 +1,24 @@
 -- Answers printed. Assumes nothing.
 use mathlib.Core.Path.{_≡_, refl, sym, ap, _∙_}
 use mathlib.Core.Bool.{true}
-use mathlib.Core.List.{List, [], _∷_, _++_, append-nil}
+use mathlib.Core.List.{List, [], _∷_, _++_}
 use Prim.Native.Nat.{ℕ, zero, suc, _+_, _*_, _-_, _≤_, _<_, min}
 use native.Mathlib.Omega.{arith}
 use lib.Dec.{eqb, leb}
 use lib.ListN.{length, getD, take, drop, length-append, length-take, length-drop}
 use native.Mathlib.Nat.{zero-add, suc-add}
-use lib.Seq.{take-all, take-take, take-nil, drop-length, length-take-le}
+use lib.Seq.{take-all, take-take, take-nil, length-take-le}
 use borrow.Author.Tests.{eq-eqb, ne-eqb, leb-true, leb-false}
 use Rattle.lists.specs.Lists.{into}
 use Rattle.lists.proofs.Bools.{cases}
-use Rattle.lists.proofs.Parts.{rest, into-more}
+use Rattle.lists.proofs.Parts.{rest}
 use Rattle.frames.specs.Frames.{lineOf}
 use Rattle.frames.proofs.Printed.{length-line}
 use Rattle.call_list.specs.declared.Item.{Item}
 use Rattle.call_list.specs.declared.Item.the-variants.{Bad}
 use Rattle.call_list.specs.Items.{high32, isItem}
 use Rattle.cut_lines.specs.Printing.{answerText, itemText, fileText, endingText}
+use Rattle.trace.proofs.Feeding.{put-behind}
 
 -- a text at the front of the output, and its length
 abbrev pub Shows : List ℕ → ℕ → List ℕ → List ℕ → Type 0
@@ -63,13 +64,6 @@ file-given a n e s h k =
     let d : 5 + e - 5 ≡ e = omega arith in
     rw (eq-eqb (getD a 0 0) 0 s, s, d, k, take-min n (length a - 5) (drop 5 a) (omega (arith, length-drop 5 a)), h)
 
--- a text behind another, its room lent from the first one's end on
-pub put-behind : (front text out₀ out o' : List ℕ) (len : ℕ) → len ≡ length front → len ≤ length out₀ → out ≡ into front out₀
-    → o' ≡ into text (take (length out - len) (drop len out)) → take len out ++ (o' ++ drop (length out - len) (drop len out)) ≡ into (front ++ text) out₀
-put-behind front text out₀ out o' len l k e q =
-    let d : drop (length out - len) (drop len out) ≡ [] = ap (λ (n : ℕ). drop n (drop len out)) (sym (length-drop len out)) ∙ drop-length (drop len out) in
-    rw (d, append-nil o', q, rest len out, e) (into-more front text out₀ len l k)
-
 -- how long they are
 pub answer-short : (a : List ℕ) → length (answerText a) ≤ 2 * length a + 1
 unfolding answerText
@@ -80,7 +74,7 @@ pub item-short : (i : Item) (a : List ℕ) → length (itemText i a) ≤ 2 * len
 unfolding itemText
 item-short i a = cases (isItem i) (λ t. rw t (omega (arith, answer-short a))) (λ t. rw t (omega (arith, length-line 0xff [])))
 
-pub file-short : (a : List ℕ) → 5 ≤ length a → length (fileText a) ≤ 2 * length a
+file-short : (a : List ℕ) → 5 ≤ length a → length (fileText a) ≤ 2 * length a
 unfolding fileText
 file-short a h =
     cases (eqb (getD a 0 0) 0)

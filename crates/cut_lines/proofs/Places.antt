@@ -77,10 +77,10 @@ item-stays (b ∷ t) r e =
     (λ f9. rw (f1, f2, f3, f4, f5, f6, f7, f8, f9))))))))))
 
 -- the place where bytes stand that are an item, all of them
-abbrev pub placed : List ℕ → List ℕ → Place
+abbrev placed : List ℕ → List ℕ → Place
 placed code rest = record { item = itemIn code; bytes = code ++ rest }
 
-pub code-items : (code rest : List ℕ) → isItem (itemIn code) ≡ true → length code ≡ itemLength (itemIn code) → items 0 (code ++ rest) ≡ (placed code rest ∷ items 0 rest)
+code-items : (code rest : List ℕ) → isItem (itemIn code) ≡ true → length code ≡ itemLength (itemIn code) → items 0 (code ++ rest) ≡ (placed code rest ∷ items 0 rest)
 code-items code rest e l =
     let s = item-stays code rest e in
     let d : drop (0 + itemLength (itemIn (code ++ rest))) (code ++ rest) ≡ rest =
@@ -97,11 +97,11 @@ whole-code (some bytes) e =
     (λ t. rw t (refl, sym (eqb-true (itemLength (itemIn bytes)) (length bytes) t)))
     (λ t. never (sym (rw t at e)))
 
-pub line-code : (line : List ℕ) → isItem (lineItem line) ≡ true → (itemIn (lineCode line) ≡ lineItem line) × (length (lineCode line) ≡ itemLength (lineItem line))
+line-code : (line : List ℕ) → isItem (lineItem line) ≡ true → (itemIn (lineCode line) ≡ lineItem line) × (length (lineCode line) ≡ itemLength (lineItem line))
 unfolding lineCode lineItem
 line-code line e = rw e (whole-code (unhex line) e)
 
-pub line-items : (line rest : List ℕ) → isItem (lineItem line) ≡ true
+line-items : (line rest : List ℕ) → isItem (lineItem line) ≡ true
     → items 0 (lineCode line ++ rest) ≡ (record { item = lineItem line; bytes = lineCode line ++ rest } ∷ items 0 rest)
 line-items line rest e =
     let k = line-code line e in
@@ -109,11 +109,11 @@ line-items line rest e =
     code-items (lineCode line) rest t (k .1 ∙ ap itemLength (sym (k .0)))
     ∙ (λ j. record { item = k .0 j; bytes = lineCode line ++ rest } ∷ items 0 rest)
 
-pub no-code : (line : List ℕ) → isItem (lineItem line) ≡ false → lineCode line ≡ []
+no-code : (line : List ℕ) → isItem (lineItem line) ≡ false → lineCode line ≡ []
 unfolding lineCode
 no-code line e = rw e
 
-pub bad-item : (i : Item) → isItem i ≡ false → i ≡ Bad
+bad-item : (i : Item) → isItem i ≡ false → i ≡ Bad
 bad-item (SaveRead a) e = never e
 bad-item (SaveWrite a v) e = never e
 bad-item EepromRead e = never e
@@ -143,7 +143,7 @@ load-length : length (prelude Eeprom8k) ≡ 8197
 unfolding prelude
 load-length = omega (arith, length-erased 8192)
 
-pub load-items : (rest : List ℕ) → items 0 (prelude Eeprom8k ++ rest) ≡ (record { item = LoadSave 8192; bytes = prelude Eeprom8k ++ rest } ∷ items 0 rest)
+load-items : (rest : List ℕ) → items 0 (prelude Eeprom8k ++ rest) ≡ (record { item = LoadSave 8192; bytes = prelude Eeprom8k ++ rest } ∷ items 0 rest)
 load-items rest =
     code-items (prelude Eeprom8k) rest (ap isItem load-code) (load-length ∙ ap itemLength (sym load-code))
     ∙ (λ j. record { item = load-code j; bytes = prelude Eeprom8k ++ rest } ∷ items 0 rest)

@@ -50,7 +50,7 @@ pub behind-last : (text : List ℕ) (end : ℕ) → length text ≤ end → drop
 behind-last text end h = none-behind text end h ∙ sym (none-behind text (end + 1) (omega arith))
 
 -- a trace with a first line
-pub trace-said : (text memory scratch answers : List ℕ) (end from : ℕ) → 0 < length text → end ≡ lineLength text → drop from text ≡ drop (end + 1) text
+trace-said : (text memory scratch answers : List ℕ) (end from : ℕ) → 0 < length text → end ≡ lineLength text → drop from text ≡ drop (end + 1) text
     → cuttrace text memory scratch answers ≡ playFrom (firstLine (take end text)) (linesFrom [] (take (length text - from) (drop from text))) memory scratch answers
 unfolding cuttrace playLines
 trace-said text memory scratch answers end from h e d =

@@ -20,10 +20,9 @@ ghost use Rattle.kind.specs.Kind.{memorySize};
 ghost use Rattle.frames.specs.Frames.{lineOf};
 ghost use Rattle.frames.specs.declared.FirstLine.the-variants.{Fresh};
 ghost use Rattle.trace.specs.Trace.{linesFrom};
-ghost use Rattle.replay.specs.Replay.{replay};
-ghost use Rattle.cut_lines.specs.Lines.{listOf, lineLength};
+ghost use Rattle.cut_lines.specs.Lines.{listOf};
 ghost use Rattle.cut_lines.specs.Printing.{linesText, linesRoom};
-ghost use Rattle.cut_lines.specs.Setup.{imageOf, prelude, preludeRoom};
+ghost use Rattle.cut_lines.specs.Setup.{prelude, preludeRoom};
 ghost use Rattle.cut_lines.specs.Cuttrace.{playFrom, cuttrace};
 
 // The list goes to the front of the room; the answer is how long it is.

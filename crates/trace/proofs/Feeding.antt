@@ -38,7 +38,7 @@ out-length {input} {m₀} {out₀} f =
     ap length (f .outIs) ∙ length-into (f .front) out₀ (omega (arith, f .lenIs, f .lenOk, f .placeOk, f .roomOk))
 
 -- the output behind the character at i, lent from len on
-put-behind : (front text out₀ out o' : List ℕ) (len : ℕ) → len ≡ length front → len ≤ length out₀ → out ≡ into front out₀
+pub put-behind : (front text out₀ out o' : List ℕ) (len : ℕ) → len ≡ length front → len ≤ length out₀ → out ≡ into front out₀
     → o' ≡ into text (take (length out - len) (drop len out)) → take len out ++ (o' ++ drop (length out - len) (drop len out)) ≡ into (front ++ text) out₀
 put-behind front text out₀ out o' len l k e q =
     rw (past-rest len out, append-nil o', q, rest len out, e) (into-more front text out₀ len l k)

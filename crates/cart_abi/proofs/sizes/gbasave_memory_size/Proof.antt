@@ -1,10 +1,10 @@
 -- `cart_abi::sizes::gbasave_memory_size` meets its contract. Assumes nothing.
+use Rattle.kind.proofs.Sizes.{memory-small}
 use mathlib.Core.Path.{ap, _∙_}
 use native.Mathlib.Omega.{arith}
 use borrow.Author.Tests.{lt-leb, le-leb}
 use Rattle.kind.specs.Kind.{memorySize}
 use Rattle.cart_abi.specs.Abi.{memorySizeAnswer}
-use Rattle.cart_abi.proofs.Answers.{memory-le}
 use borrow.Author.Needs.{needs}
 use Rattle.cart_abi.proofs.sizes.gbasave_memory_size.Statement.{statement}
 use Rattle.cart_abi.proofs.sizes.gbasave_memory_size.Tie as tie
@@ -14,7 +14,7 @@ unfolding memorySizeAnswer
 returns c = rw (lt-leb _ _ (c .if1 .taken))
 
 cast-size : tie.Need-cast-size
-cast-size c = omega (arith, memory-le (c .before .kind-of .result), c .memory-size .ensures)
+cast-size c = omega (arith, memory-small (c .before .kind-of .result), c .memory-size .ensures)
 
 returns-2 : tie.Need-returns-2
 unfolding memorySizeAnswer
