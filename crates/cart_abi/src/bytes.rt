@@ -1,17 +1,12 @@
 // `save_read` and `save_write`: the byte calls. In front of question 2 stands the quick test of a usual record.
+use crate::asked::write_record;
 use abi_record::byte_usual;
 use abi_record::is_record;
-use abi_record::kind_of;
 use abi_record::known;
 use in_place::read_in_place;
-use in_place::write_in_place;
-use kind::memory_size;
 ghost use mathlib.Core.Path.{_≡_};
-ghost use mathlib.Core.Bool.{true};
 ghost use mathlib.Core.List.{[]};
 ghost use Rattle.cart.specs.Calls.{saveRead, saveWrite, step};
-ghost use Rattle.cart.specs.Record.{recordAllowed};
-ghost use Rattle.abi_record.specs.RecordBytes.{recordBytes, cartOf, isRecord};
 ghost use Rattle.cart_abi.specs.Abi.{called, calledAt};
 
 // Of every record; called last, so that the quick way pays nothing for it.
@@ -40,19 +35,6 @@ pub extern "C" fn gbasave_save_read(
         return read_any(cart, memory, address, value);
     }
     read_in_place(&cart[..], memory, address, value)
-}
-
-// All of question 2 answered yes.
-fn write_record(cart: &mut [u8; 24], memory: &mut [u8], address: u32, value: u8) -> u32
-    requires { ⌜ (isRecord (now cart) ≡ true) × (recordAllowed (cartOf (now cart)) ≡ true) × (recordBytes (cartOf (now cart)) ≡ now cart) ⌝ }
-    ensures { λ x. ⌜ (x, now (cart .exit), now (memory .exit)) ≡ called (step (saveWrite address value) []) (now (cart .entry)) (now (memory .entry)) ⌝ }
-{
-    let kind = kind_of(cart[4]);
-    if memory.len() != memory_size(kind) {
-        return 3;
-    }
-    write_in_place(kind, &mut cart[..], &mut memory[..], address, value);
-    0
 }
 
 fn write_any(cart: &mut [u8; 24], memory: &mut [u8], address: u32, value: u8) -> u32

@@ -2,18 +2,11 @@
 use crate::answers::put_file;
 use crate::answers::put_state;
 use crate::playing::play;
-use call_list::ask_list;
 use call_list::item_in;
 use call_list::item_length;
 use call_list::item_room;
 use cart::Cartridge;
-use image::image_length;
-use kind::detect_save_type;
-use kind::memory_size;
-use kind::uses_eeprom;
-use lists::fill;
 use state_calls::chip_state;
-use state_calls::from_bytes;
 ghost use mathlib.Core.Path.{_≡_};
 ghost use mathlib.Core.Bool.{false, _&&_};
 ghost use Prim.Native.Nat.{_+_, _≤_};
@@ -24,21 +17,7 @@ ghost use Rattle.cart.specs.Record.{openQuestions, fresh as fresh·spec};
 ghost use Rattle.cart.specs.Replies.{state};
 ghost use Rattle.call_list.specs.Items.{items, byteWrites, room};
 ghost use Rattle.call_list.specs.ListQuestions.{endingRoom};
-ghost use Rattle.replay.specs.Replay.{ending, uncutRun, shownBy, replayQuestions, replay};
-
-// The number of the first question that is answered no, or 0.
-fn ask(image: &[u8], list: &[u8], memory: &[u8], scratch: usize, out: usize) -> u8
-    ensures { λ r. ⌜ r ≡ asked (replayQuestions (now (image .entry)) (now (list .entry)) (now (memory .entry)) scratch out) ⌝ }
-{
-    if !image_length(image.len()) {
-        return 1;
-    }
-    let kind = detect_save_type(image);
-    if memory.len() != memory_size(kind) {
-        return 3;
-    }
-    ask_list(list, uses_eeprom(kind), memory.len(), scratch, out)
-}
+ghost use Rattle.replay.specs.Replay.{ending, uncutRun, shownBy};
 
 // What is answered behind the last item.
 fn end_with(cart: Cartridge, memory: &[u8], out: &mut [u8])
@@ -50,7 +29,7 @@ fn end_with(cart: Cartridge, memory: &[u8], out: &mut [u8])
     put_state(&mut out[middle..], chip_state(cart));
 }
 
-fn run(
+pub fn run(
     image: &[u8],
     list: &[u8],
     fresh: Cartridge,
@@ -85,26 +64,4 @@ fn run(
     }
     let end = at + 24 + memory.len();
     end_with(cart, memory, &mut out[at..end]);
-}
-
-// Answers 0 or a refusal; refused, nothing is changed.
-#[no_mangle]
-pub extern "C" fn gbasave_replay(
-    image: &[u8],
-    list: &[u8],
-    memory: &mut [u8],
-    scratch: &mut [u8],
-    out: &mut [u8],
-) -> u32
-    ensures { λ r. ⌜ (r, now (memory .exit), now (scratch .exit), now (out .exit)) ≡ replay (now (image .entry)) (now (list .entry)) (now (memory .entry)) (now (scratch .entry)) (now (out .entry)) ⌝ }
-{
-    let refusal = ask(image, list, memory, scratch.len(), out.len());
-    if refusal != 0 {
-        return refusal as u32;
-    }
-    let opened = from_bytes(image, memory);
-    let cart = opened.cart;
-    run(image, list, cart, memory, scratch, out);
-    fill(scratch, 0);
-    0
 }

@@ -10,8 +10,8 @@ use Rattle.call_list.specs.Items.{items}
 use Rattle.call_list.specs.ListQuestions.{listQuestions}
 use Rattle.kind.proofs.Sizes.{memory-small}
 use borrow.Author.Needs.{needs}
-use Rattle.replay.proofs.running.ask.Statement.{statement}
-use Rattle.replay.proofs.running.ask.Tie as tie
+use Rattle.replay.proofs.exported.ask.Statement.{statement}
+use Rattle.replay.proofs.exported.ask.Tie as tie
 
 returns : tie.Need-returns
 returns c = rw (denied _ (c .before .image-length .ensures) (c .if1 .taken))

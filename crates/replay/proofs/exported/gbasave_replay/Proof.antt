@@ -4,8 +4,8 @@ use Prim.Native.Nat.{ℕ}
 use lib.ListN.{replicate}
 use Rattle.replay.proofs.Whole.{refused, opens, opened-fresh, no-byte-write, scratch-holds, out-holds, accepted}
 use borrow.Author.Needs.{needs}
-use Rattle.replay.proofs.running.gbasave_replay.Statement.{statement}
-use Rattle.replay.proofs.running.gbasave_replay.Tie as tie
+use Rattle.replay.proofs.exported.gbasave_replay.Statement.{statement}
+use Rattle.replay.proofs.exported.gbasave_replay.Tie as tie
 
 returns : tie.Need-returns
 returns c = let a = c .before .before .before .before .before .before .before .before .args in

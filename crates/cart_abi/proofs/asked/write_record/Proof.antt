@@ -5,8 +5,8 @@ use Rattle.cart.specs.Calls.{writeSave}
 use Rattle.in_place.specs.InPlace.{stateOf, bytesOf}
 use Rattle.cart_abi.proofs.ByteCalls.{write-no, write-yes}
 use borrow.Author.Needs.{needs}
-use Rattle.cart_abi.proofs.bytes.write_record.Statement.{statement}
-use Rattle.cart_abi.proofs.bytes.write_record.Tie as tie
+use Rattle.cart_abi.proofs.asked.write_record.Statement.{statement}
+use Rattle.cart_abi.proofs.asked.write_record.Tie as tie
 
 returns : tie.Need-returns
 returns c = let a = c .before .before .before .before .before .args in write-no (a .cart .now) (a .memory .now) (c .before .before .before .before .before .pre .0) (c .before .before .before .before .before .pre .1, c .before .before .before .before .before .pre .2) (λ e. c .if1 .taken (e ∙ sym (c .before .memory-size .ensures ∙ ap memorySize (c .before .before .kind-of .ensures)))) (a .address) (a .value)

@@ -1,0 +1,48 @@
+// The call that a C program links: what is asked, and then the list.
+use crate::running::run;
+use call_list::ask_list;
+use image::image_length;
+use kind::detect_save_type;
+use kind::memory_size;
+use kind::uses_eeprom;
+use lists::fill;
+use state_calls::from_bytes;
+ghost use mathlib.Core.Path.{_≡_};
+ghost use Rattle.lists.specs.Questions.{asked};
+ghost use Rattle.replay.specs.Replay.{replayQuestions, replay};
+
+// The number of the first question that is answered no, or 0.
+fn ask(image: &[u8], list: &[u8], memory: &[u8], scratch: usize, out: usize) -> u8
+    ensures { λ r. ⌜ r ≡ asked (replayQuestions (now (image .entry)) (now (list .entry)) (now (memory .entry)) scratch out) ⌝ }
+{
+    if !image_length(image.len()) {
+        return 1;
+    }
+    let kind = detect_save_type(image);
+    if memory.len() != memory_size(kind) {
+        return 3;
+    }
+    ask_list(list, uses_eeprom(kind), memory.len(), scratch, out)
+}
+
+// Answers 0 or a refusal; refused, nothing is changed.
+#[no_mangle]
+pub extern "C" fn gbasave_replay(
+    image: &[u8],
+    list: &[u8],
+    memory: &mut [u8],
+    scratch: &mut [u8],
+    out: &mut [u8],
+) -> u32
+    ensures { λ r. ⌜ (r, now (memory .exit), now (scratch .exit), now (out .exit)) ≡ replay (now (image .entry)) (now (list .entry)) (now (memory .entry)) (now (scratch .entry)) (now (out .entry)) ⌝ }
+{
+    let refusal = ask(image, list, memory, scratch.len(), out.len());
+    if refusal != 0 {
+        return refusal as u32;
+    }
+    let opened = from_bytes(image, memory);
+    let cart = opened.cart;
+    run(image, list, cart, memory, scratch, out);
+    fill(scratch, 0);
+    0
+}
