@@ -21,14 +21,14 @@ use Rattle.cart.proofs.CutRuns.{cut-runs, export-accepted, state-accepted, file
 use Rattle.call_list.specs.declared.Item.{Item}
 use Rattle.call_list.specs.declared.Item.the-variants.{SaveRead, SaveWrite, EepromRead, EepromWrite, BeginDma, TakeFlag, ChipState, LoadSave, SaveData, Cut, Bad}
 use Rattle.call_list.specs.Items.{Place, items, isWrite, byteWrites}
-use Rattle.replay.specs.Replay.{Answered, replayQuestions, play, playAll, notCut, ending, stateOf, uncutRun}
+use Rattle.replay.specs.Replay.{Answered, fileAnswer, replayQuestions, play, playAll, notCut, ending, recordAnswer, uncutRun}
 use Rattle.replay.specs.Replay as replay
 use Rattle.replay.specs.Claims.{cutsInFront, turn, turnOr, turns, shownBytes, callsBytes, fileBytes, encoded, ReplayRuns}
 use Rattle.replay.proofs.Same.{isByteWrite, no-write, fresh-stands}
 use Rattle.replay.proofs.Runs.{both-false, writes-more}
 use Rattle.replay.proofs.Whole.{opens, opens-here, next-fresh, no-byte-write, memory-length}
 
-file-bytes : (n : ℕ) (f : Option (List ℕ)) (s : State) → replay.fileOf (exported f (replicate n 0) s) .bytes ≡ fileBytes n f
+file-bytes : (n : ℕ) (f : Option (List ℕ)) (s : State) → fileAnswer (exported f (replicate n 0) s) .bytes ≡ fileBytes n f
 file-bytes n none s = refl
 file-bytes n (some f) s = refl
 
@@ -38,9 +38,9 @@ ending-is image s r =
     let n : ℕ = length (s .memory) in
     let a = record-allowed s (r .sound) in
     let b = memory-fits s (r .sound) in
-    let f : replay.fileOf (step saveData (replicate n 0) s) .bytes ≡ fileBytes n (fileLeft s) =
-    ap (λ (o : Outcome). replay.fileOf o .bytes) (export-accepted (replicate n 0) s a b (length-replicate n 0)) ∙ file-bytes n (fileOf (s .cart .kind) s) s ∙ ap (fileBytes n) (sym (file-left s a b)) in
-    let g : stateOf (step chipState [] s) .bytes ≡ 0 ∷ bytesLeft s = ap (λ (o : Outcome). stateOf o .bytes) (state-accepted s a) ∙ ap (λ (l : List ℕ). 0 ∷ l) (sym (bytes-left s a)) in
+    let f : fileAnswer (step saveData (replicate n 0) s) .bytes ≡ fileBytes n (fileLeft s) =
+    ap (λ (o : Outcome). fileAnswer o .bytes) (export-accepted (replicate n 0) s a b (length-replicate n 0)) ∙ file-bytes n (fileOf (s .cart .kind) s) s ∙ ap (fileBytes n) (sym (file-left s a b)) in
+    let g : recordAnswer (step chipState [] s) .bytes ≡ 0 ∷ bytesLeft s = ap (λ (o : Outcome). recordAnswer o .bytes) (state-accepted s a) ∙ ap (λ (l : List ℕ). 0 ∷ l) (sym (bytes-left s a)) in
     λ i. f i ++ g i
 
 -- how many bytes a recoverable state's memory has

@@ -18,7 +18,7 @@ use Rattle.cart.proofs.CutRuns.{quiet, cut-quiet, unflagged, step-same, recover
 use Rattle.call_list.specs.declared.Item.{Item}
 use Rattle.call_list.specs.declared.Item.the-variants.{SaveRead, SaveWrite, EepromRead, EepromWrite, BeginDma, TakeFlag, ChipState, LoadSave, SaveData, Cut, Bad}
 use Rattle.call_list.specs.Items.{isWrite}
-use Rattle.replay.specs.Replay.{Answered, statusOf, valueOf, stateOf, fileOf, play, notCut, cutAt, ending}
+use Rattle.replay.specs.Replay.{Answered, statusAnswer, valueAnswer, recordAnswer, fileAnswer, play, notCut, cutAt, ending}
 
 -- the image of a state that is recoverable opens again
 open-yes : (image : List ℕ) (s : State) → Recoverable image s → asked (openQuestions image (s .memory)) ≡ 0
@@ -70,15 +70,15 @@ module _ (image : List ℕ) (s t : State) (e : quiet s ≡ quiet t) (r : Recover
 
   pub plays-same : (i : Item) (l : List ℕ) → isWrite i && usesEeprom (detectSaveType image) ≡ false → Alike image (play (cutAt image) i l s) (play notCut i l t)
   unfolding play
-  plays-same (SaveRead a) l w = alike (called (λ o. valueOf o .bytes) (saveRead a) [] refl (λ o. refl))
-  plays-same (SaveWrite a v) l w = alike (called (λ o. statusOf o .bytes) (saveWrite a v) [] w (λ o. refl))
-  plays-same EepromRead l w = alike (called (λ o. valueOf o .bytes) eepromRead [] refl (λ o. refl))
-  plays-same (EepromWrite v) l w = alike (called (λ o. statusOf o .bytes) (eepromWrite v) [] refl (λ o. refl))
-  plays-same (BeginDma words) l w = alike (called (λ o. statusOf o .bytes) (eepromBeginDma words) [] refl (λ o. refl))
-  plays-same TakeFlag l w = alike (called (λ o. statusOf o .bytes) takeSaveDirty [] refl (λ o. refl))
-  plays-same ChipState l w = alike (called (λ o. stateOf o .bytes) chipState [] refl (λ o. refl))
-  plays-same (LoadSave n) l w = alike (called (λ o. statusOf o .bytes) (loadSave (take n (drop 5 l))) [] refl (λ o. refl))
-  plays-same (SaveData n) l w = alike (called (λ o. fileOf o .bytes) saveData (replicate n 0) refl (λ o. refl))
+  plays-same (SaveRead a) l w = alike (called (λ o. valueAnswer o .bytes) (saveRead a) [] refl (λ o. refl))
+  plays-same (SaveWrite a v) l w = alike (called (λ o. statusAnswer o .bytes) (saveWrite a v) [] w (λ o. refl))
+  plays-same EepromRead l w = alike (called (λ o. valueAnswer o .bytes) eepromRead [] refl (λ o. refl))
+  plays-same (EepromWrite v) l w = alike (called (λ o. statusAnswer o .bytes) (eepromWrite v) [] refl (λ o. refl))
+  plays-same (BeginDma words) l w = alike (called (λ o. statusAnswer o .bytes) (eepromBeginDma words) [] refl (λ o. refl))
+  plays-same TakeFlag l w = alike (called (λ o. statusAnswer o .bytes) takeSaveDirty [] refl (λ o. refl))
+  plays-same ChipState l w = alike (called (λ o. recordAnswer o .bytes) chipState [] refl (λ o. refl))
+  plays-same (LoadSave n) l w = alike (called (λ o. statusAnswer o .bytes) (loadSave (take n (drop 5 l))) [] refl (λ o. refl))
+  plays-same (SaveData n) l w = alike (called (λ o. fileAnswer o .bytes) saveData (replicate n 0) refl (λ o. refl))
   plays-same Cut l w =
       let q : cut image (s .memory) s ≡ quiet s = cut-quiet image (s .memory) s (opens image s r) r in
       record { bytesSame = refl; stillSame = ap quiet q ∙ e; stillStands = rw q (recoverable-quiet image s r) }
@@ -88,7 +88,7 @@ module _ (image : List ℕ) (s t : State) (e : quiet s ≡ quiet t) (r : Recover
   unfolding ending
   ends-same =
       let n : length (s .memory) ≡ length (t .memory) = ap (λ (x : State). length (x .memory)) e in
-      let f : (fileOf (step saveData (replicate (length (s .memory)) 0) s) .bytes) ≡ (fileOf (step saveData (replicate (length (s .memory)) 0) t) .bytes) =
-      called (λ o. fileOf o .bytes) saveData (replicate (length (s .memory)) 0) refl (λ o. refl) .0 in
-      let g = called (λ o. stateOf o .bytes) chipState [] refl (λ o. refl) .0 in
-      (λ i. f i ++ g i) ∙ ap (λ (k : ℕ). fileOf (step saveData (replicate k 0) t) .bytes ++ stateOf (step chipState [] t) .bytes) n
+      let f : (fileAnswer (step saveData (replicate (length (s .memory)) 0) s) .bytes) ≡ (fileAnswer (step saveData (replicate (length (s .memory)) 0) t) .bytes) =
+      called (λ o. fileAnswer o .bytes) saveData (replicate (length (s .memory)) 0) refl (λ o. refl) .0 in
+      let g = called (λ o. recordAnswer o .bytes) chipState [] refl (λ o. refl) .0 in
+      (λ i. f i ++ g i) ∙ ap (λ (k : ℕ). fileAnswer (step saveData (replicate k 0) t) .bytes ++ recordAnswer (step chipState [] t) .bytes) n

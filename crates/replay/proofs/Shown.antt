@@ -18,7 +18,7 @@ use Rattle.state_calls.specs.StateAnswer.{stateAnswered}
 use Rattle.call_list.specs.declared.Item.{Item}
 use Rattle.call_list.specs.declared.Item.the-variants.{LoadSave, SaveData}
 use Rattle.call_list.specs.Items.{itemLength, itemRoom}
-use Rattle.replay.specs.Replay.{valueOf, stateOf, left, statusShown, valueShown}
+use Rattle.replay.specs.Replay.{valueAnswer, recordAnswer, left, statusShown, valueShown}
 
 pub shows-status : {reply q : Reply} {m n out : List ℕ} {r : Cartridge} → _≡_ {A = Reply × List ℕ} (reply, m) (q, n)
     → _≡_ {A = Cartridge × List ℕ} (r, out) (statusShown reply)
@@ -27,12 +27,12 @@ shows-status {m = m} e h = (λ i. (state (h i .0) m, h i .1)) ∙ (λ i. (state 
 
 pub shows-value : (o : Outcome) {reply : Reply} {m out : List ℕ} {r : Cartridge} → _≡_ {A = Reply × List ℕ} (reply, m) (replied o)
     → _≡_ {A = Cartridge × List ℕ} (r, out) (valueShown reply)
-    → _≡_ {A = State × List ℕ} (state r m, out) (left (valueOf o))
+    → _≡_ {A = State × List ℕ} (state r m, out) (left (valueAnswer o))
 shows-value o {m = m} e h = (λ i. (state (h i .0) m, h i .1)) ∙ (λ i. (state (e i .0 .cart) (e i .1), e i .0 .refusal ∷ e i .0 .value % 256 ∷ []))
 
 pub shows-state : (o : Outcome) {a : StateAnswer} {s : State} {out : List ℕ} → _≡_ {A = StateAnswer × State} (a, s) (stateAnswered o)
     → out ≡ a .refusal ∷ a .bytes
-    → _≡_ {A = State × List ℕ} (s, out) (left (stateOf o))
+    → _≡_ {A = State × List ℕ} (s, out) (left (recordAnswer o))
 shows-state o {s = s} e h = (λ i. (s, h i)) ∙ (λ i. (e i .1, e i .0 .refusal ∷ e i .0 .bytes))
 
 -- an export leaves the state

@@ -33,17 +33,17 @@ fourBytes n = n / 16777216 % 256 ∷ n / 65536 % 256 ∷ n / 256 % 256 ∷ n % 2
 
 -- a refusal's number or 0; behind it the byte that a call answers, or the 18 bytes, or a file's length and the destination: 0 where it is refused.
 -- "Left out are the answer of `take_save_dirty`": it is a status alone
-abbrev pub statusOf : Outcome → Answered
-statusOf o = answered (o .refusal ∷ []) (o .next)
+abbrev pub statusAnswer : Outcome → Answered
+statusAnswer o = answered (o .refusal ∷ []) (o .next)
 
-abbrev pub valueOf : Outcome → Answered
-valueOf o = answered (o .refusal ∷ first (o .given) % 256 ∷ []) (o .next)
+abbrev pub valueAnswer : Outcome → Answered
+valueAnswer o = answered (o .refusal ∷ first (o .given) % 256 ∷ []) (o .next)
 
-abbrev pub stateOf : Outcome → Answered
-stateOf o = answered (o .refusal ∷ orZeros (o .given)) (o .next)
+abbrev pub recordAnswer : Outcome → Answered
+recordAnswer o = answered (o .refusal ∷ orZeros (o .given)) (o .next)
 
-abbrev pub fileOf : Outcome → Answered
-fileOf o = answered (o .refusal ∷ (fourBytes (first (o .given)) ++ o .destination)) (o .next)
+abbrev pub fileAnswer : Outcome → Answered
+fileAnswer o = answered (o .refusal ∷ (fourBytes (first (o .given)) ++ o .destination)) (o .next)
 
 -- a reply as its record and its bytes; what an item leaves and answers
 abbrev pub statusShown : Reply → Cartridge × List ℕ
@@ -57,15 +57,15 @@ left a = (a .next, a .bytes)
 
 -- the item i, whose bytes begin l; `atCut` is what a cut does
 unfoldable pub play : (State → State) → Item → List ℕ → State → Answered
-play atCut (SaveRead a) l s = valueOf (step (saveRead a) [] s)
-play atCut (SaveWrite a v) l s = statusOf (step (saveWrite a v) [] s)
-play atCut EepromRead l s = valueOf (step eepromRead [] s)
-play atCut (EepromWrite v) l s = statusOf (step (eepromWrite v) [] s)
-play atCut (BeginDma words) l s = statusOf (step (eepromBeginDma words) [] s)
-play atCut TakeFlag l s = statusOf (step takeSaveDirty [] s)
-play atCut ChipState l s = stateOf (step chipState [] s)
-play atCut (LoadSave n) l s = statusOf (step (loadSave (take n (drop 5 l))) [] s)
-play atCut (SaveData n) l s = fileOf (step saveData (replicate n 0) s)
+play atCut (SaveRead a) l s = valueAnswer (step (saveRead a) [] s)
+play atCut (SaveWrite a v) l s = statusAnswer (step (saveWrite a v) [] s)
+play atCut EepromRead l s = valueAnswer (step eepromRead [] s)
+play atCut (EepromWrite v) l s = statusAnswer (step (eepromWrite v) [] s)
+play atCut (BeginDma words) l s = statusAnswer (step (eepromBeginDma words) [] s)
+play atCut TakeFlag l s = statusAnswer (step takeSaveDirty [] s)
+play atCut ChipState l s = recordAnswer (step chipState [] s)
+play atCut (LoadSave n) l s = statusAnswer (step (loadSave (take n (drop 5 l))) [] s)
+play atCut (SaveData n) l s = fileAnswer (step saveData (replicate n 0) s)
 play atCut Cut l s = answered [] (atCut s)
 play atCut Bad l s = answered [] s
 
@@ -78,7 +78,7 @@ playAll atCut (p ∷ list) s =
 
 -- "at the list's end the file, or that there is none, and the 18 bytes": an export into zeros as many as the memory has bytes, and `chip_state`
 unfoldable pub ending : State → List ℕ
-ending s = fileOf (step saveData (replicate (length (s .memory)) 0) s) .bytes ++ stateOf (step chipState [] s) .bytes
+ending s = fileAnswer (step saveData (replicate (length (s .memory)) 0) s) .bytes ++ recordAnswer (step chipState [] s) .bytes
 
 -- a machine that is not cut: a cut does nothing
 abbrev pub notCut : State → State

@@ -11,7 +11,7 @@ ghost use Prim.Native.Nat.{_-_, _%_, _≤_};
 ghost use lib.ListN.{length, replicate};
 ghost use Rattle.cart.specs.Calls.{saveData, step};
 ghost use Rattle.cart.specs.Replies.{state, exportReplied};
-ghost use Rattle.replay.specs.Replay.{fourBytes, fileOf};
+ghost use Rattle.replay.specs.Replay.{fourBytes, fileAnswer};
 
 pub fn put_status(out: &mut [u8], refusal: u8)
     requires { ⌜ length (now out) ≡ 1 ⌝ }
@@ -60,7 +60,7 @@ fn put_length(out: &mut [u8], reply: Reply)
 // The destination is what is lent behind five bytes.
 pub fn put_file(cart: Cartridge, memory: &[u8], out: &mut [u8])
     requires { ⌜ 5 ≤ length (now out) ⌝ }
-    ensures { λ _. ⌜ now (out .exit) ≡ fileOf (step saveData (replicate (length (now (out .entry)) - 5) 0) (state cart (now (memory .entry)))) .bytes ⌝ }
+    ensures { λ _. ⌜ now (out .exit) ≡ fileAnswer (step saveData (replicate (length (now (out .entry)) - 5) 0) (state cart (now (memory .entry)))) .bytes ⌝ }
     ensures { λ _. ⌜ length (now (out .exit)) ≡ length (now (out .entry)) ⌝ }
 {
     let exported = export_into(cart, memory, &mut out[5..]);

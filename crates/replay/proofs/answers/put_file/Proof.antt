@@ -5,7 +5,7 @@ use Prim.Native.Nat.{ℕ}
 use lib.ListN.{replicate}
 use Rattle.cart.specs.Calls.{saveData, step}
 use Rattle.cart.specs.Replies.{state}
-use Rattle.replay.specs.Replay.{fourBytes, fileOf}
+use Rattle.replay.specs.Replay.{fourBytes, fileAnswer}
 use Rattle.replay.proofs.Pieces.{front-of-tail, first-five}
 use borrow.Author.Needs.{needs}
 use Rattle.replay.proofs.answers.put_file.Statement.{statement}
@@ -23,7 +23,7 @@ returns c = let a = c .before .before .before .before .before .before .before .b
       front-of-tail (a .out .now) (c .before .before .put-length .last .0) (c .before .before .before .before .before .before .export-into .last .1 .1 .0) (c .before .before .before .before .before .before .before .before .before .before .pre)
           ∙ (λ i. c .before .before .put-length .ensures i ++ c .before .before .before .before .before .before .export-into .last .1 .1 .0)
           ∙ (λ i. (e i .0 .refusal ∷ fourBytes (e i .0 .value)) ++ e i .1)
-          ∙ ap (λ (n : ℕ). fileOf (step saveData (replicate n 0) (state (a .cart) (a .memory .now))) .bytes) (length-rest 5 (a .out .now)),
+          ∙ ap (λ (n : ℕ). fileAnswer (step saveData (replicate n 0) (state (a .cart) (a .memory .now))) .bytes) (length-rest 5 (a .out .now)),
       search needs,
     )
 

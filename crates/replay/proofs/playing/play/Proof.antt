@@ -7,7 +7,7 @@ use Rattle.cart.specs.Calls.{saveRead, eepromRead, loadSave, saveData, chipStat
 use Rattle.cart.specs.Replies.{state}
 use Rattle.call_list.specs.declared.Item.{Item}
 use Rattle.call_list.specs.Items.{itemRoom}
-use Rattle.replay.specs.Replay.{statusOf, fileOf, left, play, cutAt}
+use Rattle.replay.specs.Replay.{statusAnswer, fileAnswer, left, play, cutAt}
 use Rattle.replay.proofs.Shown.{shows-status, shows-value, shows-state, export-next, nothing, load-ends, loaded-part, file-room}
 use borrow.Author.Needs.{needs}
 use Rattle.replay.proofs.playing.play.Statement.{statement}
@@ -100,7 +100,7 @@ unfolding play
 returns-8 c = let a = c .before .before .before .before .before .before .before .before .before .before .before .before .before .before .before .before .before .args in
     let s = state (a .cart) (a .memory .now) in
     shows-status (c .before .before .before .before .before .before .load-save .ensures) (c .before .before .show-status5 .ensures)
-    ∙ ap (λ (f : List ℕ). left (statusOf (step (loadSave f) [] s))) (loaded-part (c .before .before .before .before .before .before .before .before .before .before .item5 .given .0 .0) (a .list .now))
+    ∙ ap (λ (f : List ℕ). left (statusAnswer (step (loadSave f) [] s))) (loaded-part (c .before .before .before .before .before .before .before .before .before .before .item5 .given .0 .0) (a .list .now))
     ∙ ap (λ (i : Item). left (play (cutAt (a .image .now)) i (a .list .now) s)) (sym (c .before .before .before .before .before .before .before .before .before .before .item5 .given .1))
 
 returns-9 : tie.Need-returns-9
@@ -108,7 +108,7 @@ unfolding play
 returns-9 c = let a = c .before .before .before .before .before .before .before .before .before .before .before .before .args in
     let s = state (a .cart) (a .memory .now) in
     (λ i. (sym (export-next (replicate (length (a .out .now) - 5) 0) s) i, c .before .before .put-file .ensures .0 i))
-    ∙ ap (λ (n : ℕ). left (fileOf (step saveData (replicate n 0) s))) (file-room (a .item) _ (length (a .out .now)) (c .before .before .before .before .before .enum-told4 .given .1) (c .before .before .before .before .before .before .before .before .before .before .before .before .pre .1 .0))
+    ∙ ap (λ (n : ℕ). left (fileAnswer (step saveData (replicate n 0) s))) (file-room (a .item) _ (length (a .out .now)) (c .before .before .before .before .before .enum-told4 .given .1) (c .before .before .before .before .before .before .before .before .before .before .before .before .pre .1 .0))
     ∙ ap (λ (i : Item). left (play (cutAt (a .image .now)) i (a .list .now) s)) (sym (c .before .before .before .before .before .enum-told4 .given .1))
 
 returns-10 : tie.Need-returns-10

@@ -6,7 +6,7 @@ use lib.ListN.{length, take, replicate}
 use lib.Seq.{length-take-le}
 use Rattle.cart.specs.Calls.{saveData, step}
 use Rattle.cart.specs.Replies.{state}
-use Rattle.replay.specs.Replay.{fileOf, ending}
+use Rattle.replay.specs.Replay.{fileAnswer, ending}
 use Rattle.replay.proofs.Pieces.{tail-of-front}
 use borrow.Author.Needs.{needs}
 use Rattle.replay.proofs.running.end_with.Statement.{statement}
@@ -29,7 +29,7 @@ returns c = let a = c .before .before .before .before .before .before .before .b
     let k = c .before .before .before .chip-state .ensures (a .memory .now) in
     tail-of-front (a .out .now) f (c .before .before .put-state .last .0) (5 + n) (c .before .before .before .before .before .before .before .put-file .ensures .1 ∙ t)
     ∙ (λ i. c .before .before .before .before .before .before .before .put-file .ensures .0 i ++ c .before .before .put-state .ensures i)
-    ∙ (λ i. fileOf (step saveData (replicate (q i) 0) s) .bytes ++ (k i .0 .refusal ∷ k i .0 .bytes))
+    ∙ (λ i. fileAnswer (step saveData (replicate (q i) 0) s) .bytes ++ (k i .0 .refusal ∷ k i .0 .bytes))
 
 pub end-with-spec : {M : Type 1} → statement M
 end-with-spec =
