@@ -1,2 +1,2 @@
 pub mod RecordBytes
-pub mod QuickTests
+pub mod Calls

@@ -1,4 +1,4 @@
 pub mod RecordBytes
 pub mod Places
-pub mod QuickTests
+pub mod Abi
 pub mod Claims

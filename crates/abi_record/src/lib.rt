@@ -1,7 +1,5 @@
 // What a C program lends: the cartridge record as 24 bytes, and places for values.
 
-mod usual;
-
 use cart::Cartridge;
 use cart::Reply;
 use cart::bit;
@@ -12,10 +10,6 @@ use image::image_length;
 use kind::SaveType;
 use kind::kind_number;
 use lists::low32;
-pub use usual::byte_usual;
-pub use usual::known;
-pub use usual::serial_usual;
-pub use usual::shift_usual;
 ghost use mathlib.Core.Path.{_≡_};
 ghost use mathlib.Core.Bool.{true};
 ghost use lib.ListN.{length};

@@ -1,6 +1,2 @@
-pub mod Answers
-pub mod ByteCalls
-pub mod QuickCalls
-pub mod Calls
-pub mod Kept
+pub mod NoneIsZero
 pub mod Refused

@@ -19,8 +19,8 @@ use Rattle.cart.specs.Calls.{stateWith, load, fileOf, exported, questions, acce
 use Rattle.cart.specs.Replies.{state, first}
 use Rattle.abi_record.specs.RecordBytes.{recordBytes, cartOf, isRecord}
 use Rattle.abi_record.specs.Places.{placed}
+use Rattle.abi_record.specs.Abi.{left, called, calledAt, exportAt, flagAt, stateAt}
 use Rattle.abi_record.proofs.RecordBytes.{record-and-bytes}
-use Rattle.cart_abi.specs.Abi.{left, called, calledAt, exportAt, flagAt, stateAt}
 use Rattle.cart_abi.specs.Claims.{MachineCall, ofNine, ofRestore, ofImport, RefusedLeaves}
 
 -- the machine's refusals leave state and destination

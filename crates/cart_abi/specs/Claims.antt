@@ -10,7 +10,7 @@ use lib.Pow.{areBytes}
 use Rattle.files.specs.SaveFit.{taken, saveFitOf}
 use Rattle.cart.specs.Record.{State, Outcome, fromBytes}
 use Rattle.cart.specs.Calls.{Call, restore, importSave, step}
-use Rattle.cart_abi.specs.Abi.{left, called, calledAt, exportAt, flagAt, stateAt, keptLength}
+use Rattle.abi_record.specs.Abi.{left, called, calledAt, exportAt, flagAt, stateAt, keptLength}
 
 -- the machine's calls
 pub data MachineCall : (State → Outcome) → Type 0 where

@@ -1,2 +1,1 @@
-pub mod Abi
 pub mod Claims

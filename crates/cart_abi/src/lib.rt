@@ -1,6 +1,5 @@
 // The calls that a C program links. Each answers 0 or the number of a refusal; values come through lent places.
 
-mod asked;
 mod bytes;
 mod images;
 mod save_files;

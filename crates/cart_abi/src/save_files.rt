@@ -1,25 +1,17 @@
 // `load_save`, `save_data` and import: the file calls.
-use abi_record::cart_of;
-use abi_record::is_record;
-use abi_record::tell;
-use abi_record::write_back;
-use file_calls::import_save;
-use file_calls::load_save;
-use file_calls::save_data;
+use abi_files::import_save;
+use abi_files::load_save;
+use abi_files::save_data;
 ghost use mathlib.Core.Path.{_≡_};
 ghost use mathlib.Core.List.{[]};
 ghost use Rattle.cart.specs.Calls.{loadSave, importSave, step};
-ghost use Rattle.cart_abi.specs.Abi.{called, calledAt, exportAt};
+ghost use Rattle.abi_record.specs.Abi.{called, calledAt, exportAt};
 
 #[no_mangle]
 pub extern "C" fn gbasave_load_save(cart: &mut [u8; 24], memory: &mut [u8], file: &[u8]) -> u32
     ensures { λ x. ⌜ (x, now (cart .exit), now (memory .exit)) ≡ called (step (loadSave (now (file .entry))) []) (now (cart .entry)) (now (memory .entry)) ⌝ }
 {
-    if !is_record(cart) {
-        return 2;
-    }
-    let loaded = load_save(cart_of(cart), memory, file);
-    write_back(loaded, cart)
+    load_save(cart, memory, file)
 }
 
 // Kind None has no file: the length is then 0.
@@ -32,11 +24,7 @@ pub extern "C" fn gbasave_save_data(
 ) -> u32
     ensures { λ x. ⌜ (x, now (cart .entry), now (memory .entry), now (destination .exit), now (length .exit)) ≡ exportAt (now (cart .entry)) (now (memory .entry)) (now (destination .entry)) (now (length .entry)) ⌝ }
 {
-    if !is_record(cart) {
-        return 2;
-    }
-    let exported = save_data(cart_of(cart), memory, destination);
-    tell(exported.refusal, exported.value, length)
+    save_data(cart, memory, destination, length)
 }
 
 #[no_mangle]
@@ -48,10 +36,5 @@ pub extern "C" fn gbasave_import_save(
 ) -> u32
     ensures { λ x. ⌜ (x, now (cart .exit), now (memory .exit), now (kept .exit)) ≡ calledAt (importSave (now (file .entry))) (now (cart .entry)) (now (memory .entry)) (now (kept .entry)) ⌝ }
 {
-    if !is_record(cart) {
-        return 2;
-    }
-    let imported = import_save(cart_of(cart), memory, file);
-    write_back(imported, cart);
-    tell(imported.refusal, imported.value, kept)
+    import_save(cart, memory, file, kept)
 }

@@ -19,7 +19,7 @@ use Rattle.cart.specs.ChipState.{bit, phaseNumber, phaseOf, chipBytes, chipOf}
 use Rattle.cart.specs.Calls.{eepromOf, withEeprom, withChip}
 use Rattle.cart.specs.Replies.{chipRecord, cartWith}
 use Rattle.abi_record.specs.RecordBytes.{recordBytes, cartOf}
-use Rattle.abi_record.specs.QuickTests.{WantsMore}
+use Rattle.usual_record.specs.QuickTests.{WantsMore}
 use Rattle.in_place.specs.InPlace.{stateOf, bytesOf, withAcc}
 
 -- one bit more, in each phase that takes several

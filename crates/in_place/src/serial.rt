@@ -9,7 +9,7 @@ ghost use lib.ListN.{length, getD};
 ghost use Rattle.eeprom.specs.Eeprom.{bitIn, readBit, afterRead};
 ghost use Rattle.cart.specs.Calls.{eepromOf, withEeprom, withChip};
 ghost use Rattle.abi_record.specs.RecordBytes.{cartOf, isRecord};
-ghost use Rattle.abi_record.specs.QuickTests.{WantsMore};
+ghost use Rattle.usual_record.specs.QuickTests.{WantsMore};
 ghost use Rattle.in_place.specs.InPlace.{stateOf, bytesOf, withAcc};
 
 fn shifted(acc: u64, b: u64) -> u64

@@ -1,0 +1,134 @@
+// `eeprom_begin_dma`, `eeprom_write` and `eeprom_read` on the 24 bytes of a record. In front of each stands the quick test of a usual record; a
+// function `_any` is of every record, and called last, so that the quick way pays nothing for it.
+use abi_record::cart_of;
+use abi_record::is_record;
+use abi_record::kind_of;
+use abi_record::tell;
+use abi_record::write_back;
+use in_place::draw_in_place;
+use in_place::shift_in_place;
+use kind::uses_eeprom;
+use usual_record::known;
+use usual_record::serial_usual;
+use usual_record::shift_usual;
+ghost use mathlib.Core.Path.{_≡_};
+ghost use mathlib.Core.List.{List, []};
+ghost use Prim.Native.Nat.{ℕ};
+ghost use Rattle.cart.specs.Calls.{eepromBeginDma, eepromWrite, eepromRead, step};
+ghost use Rattle.abi_record.specs.Abi.{called, calledAt};
+
+// Lent no memory: whichever one stands beside the record stays.
+fn dma_any(cart: &mut [u8; 24], words: u32) -> u32
+    ensures { λ x. ⌜ ((m : List ℕ) → (x, now (cart .exit), m) ≡ called (step (eepromBeginDma words) []) (now (cart .entry)) m) ⌝ }
+{
+    if !is_record(cart) {
+        return 2;
+    }
+    let told = serial_calls::eeprom_begin_dma(cart_of(cart), words as usize);
+    write_back(told, cart)
+}
+
+pub fn eeprom_begin_dma(cart: &mut [u8; 24], words: u32) -> u32
+    ensures { λ x. ⌜ ((m : List ℕ) → (x, now (cart .exit), m) ≡ called (step (eepromBeginDma words) []) (now (cart .entry)) m) ⌝ }
+{
+    if !known(cart) {
+        return dma_any(cart, words);
+    }
+    if !serial_usual(cart) {
+        return dma_any(cart, words);
+    }
+    if words == 17 {
+        cart[9] = 14;
+        cart[10] = 1;
+        return 0;
+    }
+    if words == 81 {
+        cart[9] = 14;
+        cart[10] = 1;
+        return 0;
+    }
+    if words == 68 {
+        return 0;
+    }
+    if 5 < cart[12] {
+        return dma_any(cart, words);
+    }
+    if words == 9 {
+        cart[9] = 6;
+        return 0;
+    }
+    if words == 73 {
+        cart[9] = 6;
+        return 0;
+    }
+    dma_any(cart, words)
+}
+
+fn write_any(cart: &mut [u8; 24], memory: &mut [u8], value: u16) -> u32
+    ensures { λ x. ⌜ (x, now (cart .exit), now (memory .exit)) ≡ called (step (eepromWrite value) []) (now (cart .entry)) (now (memory .entry)) ⌝ }
+{
+    if !is_record(cart) {
+        return 2;
+    }
+    let fed = serial_calls::eeprom_write(cart_of(cart), &mut memory[..], value);
+    write_back(fed, cart)
+}
+
+pub fn eeprom_write(cart: &mut [u8; 24], memory: &mut [u8], value: u16) -> u32
+    ensures { λ x. ⌜ (x, now (cart .exit), now (memory .exit)) ≡ called (step (eepromWrite value) []) (now (cart .entry)) (now (memory .entry)) ⌝ }
+{
+    if memory.len() != 8192 {
+        return write_any(cart, memory, value);
+    }
+    if !known(cart) {
+        return write_any(cart, memory, value);
+    }
+    if !uses_eeprom(kind_of(cart[4])) {
+        return write_any(cart, memory, value);
+    }
+    if !shift_usual(cart) {
+        return write_any(cart, memory, value);
+    }
+    shift_in_place(&mut cart[..], value);
+    0
+}
+
+fn read_any(cart: &mut [u8; 24], memory: &[u8], bit: &mut u32) -> u32
+    ensures { λ x. ⌜ (x, now (cart .exit), now (memory .entry), now (bit .exit)) ≡ calledAt (step eepromRead []) (now (cart .entry)) (now (memory .entry)) (now (bit .entry)) ⌝ }
+{
+    if !is_record(cart) {
+        return 2;
+    }
+    let drawn = serial_calls::eeprom_read(cart_of(cart), &memory[..]);
+    write_back(drawn, cart);
+    tell(drawn.refusal, drawn.value, bit)
+}
+
+pub fn eeprom_read(cart: &mut [u8; 24], memory: &[u8], bit: &mut u32) -> u32
+    ensures { λ x. ⌜ (x, now (cart .exit), now (memory .entry), now (bit .exit)) ≡ calledAt (step eepromRead []) (now (cart .entry)) (now (memory .entry)) (now (bit .entry)) ⌝ }
+{
+    if memory.len() != 8192 {
+        return read_any(cart, memory, bit);
+    }
+    if !known(cart) {
+        return read_any(cart, memory, bit);
+    }
+    if !uses_eeprom(kind_of(cart[4])) {
+        return read_any(cart, memory, bit);
+    }
+    if !serial_usual(cart) {
+        return read_any(cart, memory, bit);
+    }
+    if cart[11] < 6 {
+        *bit = 1;
+        return 0;
+    }
+    if cart[11] != 6 {
+        return read_any(cart, memory, bit);
+    }
+    if 66 < cart[15] {
+        return read_any(cart, memory, bit);
+    }
+    draw_in_place(&mut cart[..], &memory[..], bit);
+    0
+}

@@ -1,0 +1,2 @@
+pub mod ValueCalls
+pub mod QuickCalls

@@ -1,0 +1,30 @@
+-- `abi_values::take_any` meets its contract. Assumes nothing.
+use mathlib.Core.Path.{ap}
+use Prim.Native.Nat.{ℕ}
+use mathlib.Core.List.{List}
+use Rattle.lists.proofs.Bools.{denied, granted}
+use Rattle.abi_values.proofs.ValueCalls.{flag-no, flag-yes}
+use borrow.Author.Needs.{needs}
+use Rattle.abi_values.proofs.take_any.Statement.{statement}
+use Rattle.abi_values.proofs.take_any.Tie as tie
+
+returns : tie.Need-returns
+returns c = let a = c .before .before .before .args in λ m. flag-no (a .cart .now) m (a .flag .now) (denied _ (c .before .is-record .ensures .0) (c .if1 .taken))
+
+cart-of-requires : tie.Need-cart-of-requires
+cart-of-requires c κs = granted _ (c .before .before .is-record .ensures .0) (c .before .if1 .left)
+
+returns-2 : tie.Need-returns-2
+returns-2 c = let a = c .before .before .before .before .before .before .before .before .before .before .args in λ m. flag-yes (a .cart .now) m (a .flag .now) (c .before .before .before .before .take-save-dirty .result) (granted _ (c .before .before .before .before .before .before .before .before .is-record .ensures .0) (c .before .before .before .before .before .before .before .if1 .left)) (c .before .before .before .before .before .cart-of .ensures .0) (c .before .before .before .before .take-save-dirty .ensures m) (ap (λ (l : ℕ × List ℕ). l .1) (c .before .before .write-back .ensures)) (c .tell .ensures)
+
+pub take-any-spec : {M : Type 1} → statement M
+take-any-spec =
+    tie.close
+    (tie.spec
+    (λ c κs. search needs)
+    returns
+    cart-of-requires
+    (λ c κs. search needs)
+    (λ c κs. search needs)
+    (λ c κs. search needs)
+    returns-2)
