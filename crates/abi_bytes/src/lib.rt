@@ -5,8 +5,9 @@ mod asked;
 use abi_record::is_record;
 use asked::write_record;
 use in_place::read_in_place;
-use usual_record::byte_usual;
 use usual_record::known;
+use usual_record::read_usual;
+use usual_record::write_usual;
 ghost use mathlib.Core.Path.{_≡_};
 ghost use mathlib.Core.List.{[]};
 ghost use Rattle.cart.specs.Calls.{saveRead, saveWrite, step};
@@ -28,7 +29,7 @@ pub fn save_read(cart: &[u8; 24], memory: &[u8], address: u32, value: &mut u32) 
     if !known(cart) {
         return read_any(cart, memory, address, value);
     }
-    if !byte_usual(cart) {
+    if !read_usual(cart) {
         return read_any(cart, memory, address, value);
     }
     read_in_place(&cart[..], memory, address, value)
@@ -49,7 +50,7 @@ pub fn save_write(cart: &mut [u8; 24], memory: &mut [u8], address: u32, value: u
     if !known(cart) {
         return write_any(cart, memory, address, value);
     }
-    if !byte_usual(cart) {
+    if !write_usual(cart) {
         return write_any(cart, memory, address, value);
     }
     write_record(cart, memory, address, value)

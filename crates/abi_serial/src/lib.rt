@@ -7,6 +7,8 @@ use abi_record::tell;
 use abi_record::write_back;
 use in_place::draw_in_place;
 use in_place::shift_in_place;
+use in_place::step_in_place;
+use kind::memory_size;
 use kind::uses_eeprom;
 use usual_record::known;
 use usual_record::serial_usual;
@@ -70,8 +72,15 @@ fn write_any(cart: &mut [u8; 24], memory: &mut [u8], value: u16) -> u32
     if !is_record(cart) {
         return 2;
     }
-    let fed = serial_calls::eeprom_write(cart_of(cart), &mut memory[..], value);
-    write_back(fed, cart)
+    let kind = kind_of(cart[4]);
+    if memory.len() != memory_size(kind) {
+        return 3;
+    }
+    if !uses_eeprom(kind) {
+        return 4;
+    }
+    step_in_place(&mut cart[..], &mut memory[..], value);
+    0
 }
 
 pub fn eeprom_write(cart: &mut [u8; 24], memory: &mut [u8], value: u16) -> u32

@@ -11,6 +11,7 @@ pub use questions::door;
 pub use questions::record_allowed;
 pub use state_bytes::chip_bytes;
 pub use state_bytes::chip_of;
+pub use state_bytes::phase_number;
 pub use state_bytes::state_questions;
 ghost use mathlib.Core.Path.{_≡_};
 ghost use Rattle.cart.specs.ChipState.{bit as bit·spec};

@@ -19,7 +19,7 @@ ghost use Rattle.lists.specs.Lists.{lowValue};
 ghost use Rattle.lists.specs.Questions.{asked};
 ghost use Rattle.cart.specs.ChipState.{phaseNumber, phaseOf, chipBytes, chipOf, stateQuestions};
 
-fn phase_number(phase: EepromPhase) -> u8
+pub fn phase_number(phase: EepromPhase) -> u8
     ensures { λ r. ⌜ r ≡ phaseNumber phase ⌝ }
 {
     match phase {

@@ -12,7 +12,7 @@ use files::kept_part;
 use files::save_fit;
 use kind::SaveType;
 use kind::uses_eeprom;
-use lists::copy;
+use memory::copy_file;
 ghost use mathlib.Core.Path.{_≡_};
 ghost use mathlib.Core.Bool.{_||_, _&&_};
 ghost use mathlib.Core.List.{[]};
@@ -98,7 +98,7 @@ pub fn save_data(cart: Cartridge, memory: &[u8], destination: &mut [u8]) -> Repl
     if destination.len() < n {
         return refuse(13, cart);
     }
-    copy(destination, &memory[..n]);
+    copy_file(destination, &memory[..n]);
     done(n as u32, cart)
 }
 

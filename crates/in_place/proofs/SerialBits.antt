@@ -1,5 +1,6 @@
--- Serial bits that change count and acc, or the read place, alone. Assumes nothing.
+-- Serial bits: any bit in, one that changes count and acc alone, and one out that changes the read place alone. Assumes nothing.
 use mathlib.Core.Path.{_≡_, refl, sym, ap, _∙_}
+use mathlib.Core.Bool.{Bool, _||_}
 use mathlib.Core.List.{List, _∷_, _++_}
 use Prim.Native.Nat.{ℕ, _+_, _*_, _/_, _%_, _^_, _<_}
 use native.Mathlib.Omega.{arith}
@@ -7,20 +8,22 @@ use lib.ListN.{getD, set}
 use lib.Seq.{getD-drop}
 use borrow.Author.Tests.{ne-eqb}
 use Rattle.lists.specs.Lists.{lowFirst}
-use Rattle.memory.specs.Memory.{stored}
+use Rattle.memory.specs.Memory.{stored, stores}
 use Rattle.lists.proofs.Digits.{low-bytes}
 use Rattle.kind.specs.Kind.{kindNumber}
 use Rattle.eeprom.specs.declared.EepromPhase.{EepromPhase}
 use Rattle.eeprom.specs.declared.EepromPhase.the-variants.{Opcode, ReadAddress, WriteAddress, WriteData, ReadStop, WriteStop, Reading}
 use Rattle.eeprom.specs.declared.Eeprom.{Eeprom}
+use Rattle.eeprom.specs.declared.EepromStep.{EepromStep}
 use Rattle.eeprom.specs.Eeprom.{wOf, countLimit, serial, kept, shiftIn, opcodeBit, addressBit, dataBit, writeBitIn, writeBit, bitIn, afterRead}
 use Rattle.cart.specs.declared.Cartridge.{Cartridge}
 use Rattle.cart.specs.ChipState.{bit, phaseNumber, phaseOf, chipBytes, chipOf}
 use Rattle.cart.specs.Calls.{eepromOf, withEeprom, withChip}
 use Rattle.cart.specs.Replies.{chipRecord, cartWith}
+use Rattle.serial_calls.proofs.Bits.{took}
 use Rattle.abi_record.specs.RecordBytes.{recordBytes, cartOf}
 use Rattle.usual_record.specs.QuickTests.{WantsMore}
-use Rattle.in_place.specs.InPlace.{stateOf, bytesOf, withAcc}
+use Rattle.in_place.specs.InPlace.{stateOf, bytesOf, withAcc, withSerial}
 
 -- one bit more, in each phase that takes several
 more-by : (p : EepromPhase) (e : Eeprom) (b : ℕ) → e .count + 1 < countLimit p (wOf e)
@@ -70,6 +73,30 @@ place-bytes : (c : Cartridge) (n : ℕ)
     set (recordBytes c) 15 n ≡ recordBytes (cartWith c (c .dirty) (chipRecord (c .chip .flash) (serial e (e .phase) (e .count) (e .block) n (e .acc))))
 unfolding recordBytes chipBytes lowFirst
 place-bytes c n = refl
+
+serial-bytes : (c : Cartridge) (dirty : Bool) (e : Eeprom) → withSerial (recordBytes c) dirty e ≡ recordBytes (cartWith c dirty (chipRecord (c .chip .flash) e))
+unfolding recordBytes chipBytes lowFirst
+serial-bytes c dirty e =
+    let f = c .chip .flash in
+    ap (λ (l : List ℕ).
+    lowFirst 4 (c .len)
+    ++ (kindNumber (c .kind) ∷ bit dirty ∷ f .state ∷ f .bank ∷ bit (f .id) ∷ e .width ∷ bit (e .large) ∷ phaseNumber (e .phase) ∷ e .count ∷ e .block % 256
+    ∷ e .block / 256 ∷ e .place ∷ l)) (sym (low-bytes (e .acc)))
+
+-- what the step t leaves
+pub step-left : (r m : List ℕ) (v : ℕ) (e : Eeprom) (t : EepromStep) (dirty : Bool) {r' m' : List ℕ} → recordBytes (cartOf r) ≡ r
+    → e ≡ cartOf r .chip .eeprom
+    → t ≡ writeBit e (v % 2)
+    → dirty ≡ (stores (t .store) || cartOf r .dirty)
+    → r' ≡ withSerial r dirty (t .eeprom)
+    → m' ≡ stored (t .store) m
+    → _≡_ {A = List ℕ × List ℕ} (r', m') (bytesOf (withEeprom (stateOf r m) (bitIn (eepromOf (stateOf r m)) v)))
+step-left r m v e t dirty {r'} {m'} b g w d p q =
+    let c = cartOf r in
+    let n : r' ≡ recordBytes (cartWith c dirty (chipRecord (c .chip .flash) (t .eeprom))) =
+    p ∙ ap (λ (l : List ℕ). withSerial l dirty (t .eeprom)) (sym b) ∙ serial-bytes c dirty (t .eeprom) in
+    (λ i. (n i, m'))
+    ∙ ap bytesOf (took c m v t dirty (w ∙ ap (λ (x : Eeprom). writeBit x (v % 2)) g) d refl q)
 
 pub shift-left : (r : List ℕ) (v n acc : ℕ) {r' : List ℕ} → recordBytes (cartOf r) ≡ r → WantsMore r → n ≡ cartOf r .chip .eeprom .count + 1
     → acc ≡ (2 * cartOf r .chip .eeprom .acc + v % 2) % 2 ^ 64

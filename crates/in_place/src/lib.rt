@@ -6,22 +6,24 @@ use cart::bit;
 use flash::Flash;
 use flash::flash_read;
 use flash::flash_write;
-use kind::SaveType;
 use memory::apply;
 use memory::dirty_behind;
 use memory::put_byte;
 pub use serial::draw_in_place;
 pub use serial::shift_in_place;
+pub use serial::step_in_place;
 ghost use mathlib.Core.Path.{_≡_};
 ghost use mathlib.Core.Bool.{true};
-ghost use Prim.Native.Nat.{_%_, _<_};
+ghost use mathlib.Core.List.{List};
+ghost use Prim.Native.Nat.{ℕ, _%_, _<_};
 ghost use lib.ListN.{length, getD, set};
-ghost use Rattle.kind.specs.Kind.{memorySize};
+ghost use Rattle.memory.specs.declared.Store.the-variants.{Byte};
+ghost use Rattle.memory.specs.Memory.{stored};
 ghost use Rattle.flash.specs.Flash.{flashRead, writeByte};
 ghost use Rattle.cart.specs.ChipState.{bit as bit·spec};
-ghost use Rattle.cart.specs.Calls.{withFlash, flashOf, writeSave};
+ghost use Rattle.cart.specs.Calls.{withFlash, flashOf};
 ghost use Rattle.abi_record.specs.RecordBytes.{kindOf, cartOf, isRecord};
-ghost use Rattle.in_place.specs.InPlace.{stateOf, bytesOf, heldAt, readAt};
+ghost use Rattle.in_place.specs.InPlace.{stateOf, bytesOf, heldAt, readAt, writeAt};
 
 fn flash_in(cart: &[u8]) -> Flash
     requires { ⌜ length (now cart) ≡ 24 ⌝ }
@@ -56,22 +58,74 @@ fn write_flash(cart: &mut [u8], memory: &mut [u8], address: u32, value: u8)
     put_flash(cart, dirty, next);
 }
 
-// What a byte written leaves, all questions answered yes.
-pub fn write_in_place(kind: SaveType, cart: &mut [u8], memory: &mut [u8], address: u32, value: u8)
-    requires { ⌜ (length (now cart) ≡ 24) × (isRecord (now cart) ≡ true) × (length (now memory) ≡ memorySize kind) ⌝ }
-    ensures { λ _. ⌜ (now (cart .exit), now (memory .exit)) ≡ bytesOf (writeSave kind (stateOf (now (cart .entry)) (now (memory .entry))) address value) ⌝ }
+// A byte of a flash kind's memory, which is to have that size, or question 3; the next two are of Sram and of the EEPROM kinds.
+fn flash_kind_write(
+    size: usize,
+    cart: &mut [u8],
+    memory: &mut [u8],
+    address: u32,
+    value: u8,
+) -> u32
+    requires { ⌜ (length (now cart) ≡ 24) × (isRecord (now cart) ≡ true) × (0 < size) × (size % 4096 ≡ 0) ⌝ }
+    ensures { λ x. ⌜ (x, (now (cart .exit), now (memory .exit))) ≡ heldAt size (now (memory .entry)) (bytesOf (withFlash (stateOf (now (cart .entry)) (now (memory .entry))) (writeByte (flashOf (stateOf (now (cart .entry)) (now (memory .entry)))) address value))) (now (cart .entry), now (memory .entry)) ⌝ }
 {
-    match kind {
-        SaveType::None => {}
-        SaveType::Sram => {
-            put_byte(memory, (address % 32768) as usize, value);
-            cart[5] = 1;
-        }
-        SaveType::Flash64 | SaveType::Flash128 => write_flash(cart, memory, address, value),
-        SaveType::Eeprom512 | SaveType::Eeprom8k => {
-            put_byte(memory, (address % 8192) as usize, value)
-        }
+    if memory.len() != size {
+        return 3;
     }
+    write_flash(cart, memory, address, value);
+    0
+}
+
+fn sram_write(cart: &mut [u8], memory: &mut [u8], address: u32, value: u8) -> u32
+    requires { ⌜ length (now cart) ≡ 24 ⌝ }
+    ensures { λ x. ⌜ (x, (now (cart .exit), now (memory .exit))) ≡ heldAt {A = List ℕ × List ℕ} 32768 (now (memory .entry)) (set (now (cart .entry)) 5 1, stored (Byte (address % 32768) value) (now (memory .entry))) (now (cart .entry), now (memory .entry)) ⌝ }
+{
+    if memory.len() != 32768 {
+        return 3;
+    }
+    put_byte(memory, (address % 32768) as usize, value);
+    cart[5] = 1;
+    0
+}
+
+fn eeprom_kind_write(memory: &mut [u8], address: u32, value: u8) -> u32
+    ensures { λ x. ⌜ (x, now (memory .exit)) ≡ heldAt 8192 (now (memory .entry)) (stored (Byte (address % 8192) value) (now (memory .entry))) (now (memory .entry)) ⌝ }
+{
+    if memory.len() != 8192 {
+        return 3;
+    }
+    put_byte(memory, (address % 8192) as usize, value);
+    0
+}
+
+fn none_write(memory: &[u8]) -> u32
+    ensures { λ x. ⌜ (x, now (memory .entry)) ≡ heldAt 0 (now (memory .entry)) (now (memory .entry)) (now (memory .entry)) ⌝ }
+{
+    if memory.len() != 0 {
+        return 3;
+    }
+    0
+}
+
+// What a byte written leaves, or question 3. Here and below the kinds by pairs: tests, not a jump through a table.
+pub fn write_in_place(cart: &mut [u8], memory: &mut [u8], address: u32, value: u8) -> u32
+    requires { ⌜ (length (now cart) ≡ 24) × (isRecord (now cart) ≡ true) ⌝ }
+    ensures { λ x. ⌜ (x, (now (cart .exit), now (memory .exit))) ≡ writeAt (kindOf (getD (now (cart .entry)) 4 0)) (now (cart .entry)) (now (memory .entry)) address value ⌝ }
+{
+    let kind = cart[4];
+    if kind < 2 {
+        if kind == 1 {
+            return sram_write(cart, memory, address, value);
+        }
+        return none_write(memory);
+    }
+    if 3 < kind {
+        return eeprom_kind_write(memory, address, value);
+    }
+    if kind == 2 {
+        return flash_kind_write(65536, cart, memory, address, value);
+    }
+    flash_kind_write(131072, cart, memory, address, value)
 }
 
 // A byte of a memory that is to have that size, or question 3.
@@ -114,7 +168,7 @@ fn none_read(memory: &[u8], value: &mut u32) -> u32
     0
 }
 
-// The byte at an address, or question 3. The kinds by pairs: tests, not a jump through a table.
+// The byte at an address, or question 3.
 pub fn read_in_place(cart: &[u8], memory: &[u8], address: u32, value: &mut u32) -> u32
     requires { ⌜ length (now cart) ≡ 24 ⌝ }
     ensures { λ x. ⌜ (x, now (value .exit)) ≡ readAt (kindOf (getD (now (cart .entry)) 4 0)) (stateOf (now (cart .entry)) (now (memory .entry))) address (now (value .entry)) ⌝ }

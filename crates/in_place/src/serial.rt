@@ -1,6 +1,12 @@
 // Serial bits that change little: one that more follow, and one drawn within a block.
+use cart::bit;
 use cart::chip_of;
+use cart::phase_number;
+use eeprom::Eeprom;
 use eeprom::read_bit;
+use eeprom::write_bit;
+use memory::apply;
+use memory::dirty_behind;
 ghost use mathlib.Core.Path.{_≡_};
 ghost use mathlib.Core.Bool.{true};
 ghost use mathlib.Core.List.{List};
@@ -10,7 +16,7 @@ ghost use Rattle.eeprom.specs.Eeprom.{bitIn, readBit, afterRead};
 ghost use Rattle.cart.specs.Calls.{eepromOf, withEeprom, withChip};
 ghost use Rattle.abi_record.specs.RecordBytes.{cartOf, isRecord};
 ghost use Rattle.usual_record.specs.QuickTests.{WantsMore};
-ghost use Rattle.in_place.specs.InPlace.{stateOf, bytesOf, withAcc};
+ghost use Rattle.in_place.specs.InPlace.{stateOf, bytesOf, withAcc, withSerial};
 
 fn shifted(acc: u64, b: u64) -> u64
     requires { ⌜ b < 2 ⌝ }
@@ -43,6 +49,36 @@ pub fn shift_in_place(cart: &mut [u8], value: u16)
     let acc = shifted(e.acc, (value % 2) as u64);
     cart[12] = e.count + 1;
     put_acc(cart, acc);
+}
+
+fn put_eeprom(cart: &mut [u8], dirty: bool, e: Eeprom)
+    requires { ⌜ length (now cart) ≡ 24 ⌝ }
+    ensures { λ _. ⌜ now (cart .exit) ≡ withSerial (now (cart .entry)) dirty e ⌝ }
+{
+    let phase = e.phase;
+    cart[5] = bit(dirty);
+    cart[9] = e.width;
+    cart[10] = bit(e.large);
+    cart[11] = phase_number(phase);
+    cart[12] = e.count;
+    cart[13] = (e.block % 256) as u8;
+    cart[14] = (e.block / 256) as u8;
+    cart[15] = e.place;
+    put_acc(cart, e.acc);
+}
+
+// A bit in, all questions answered yes.
+pub fn step_in_place(cart: &mut [u8], memory: &mut [u8], value: u16)
+    requires { ⌜ (length (now cart) ≡ 24) × (isRecord (now cart) ≡ true) × (length (now memory) ≡ 8192) ⌝ }
+    ensures { λ _. ⌜ (now (cart .exit), now (memory .exit)) ≡ bytesOf (withEeprom (stateOf (now (cart .entry)) (now (memory .entry))) (bitIn (eepromOf (stateOf (now (cart .entry)) (now (memory .entry)))) value)) ⌝ }
+{
+    let chip = chip_of(&cart[6..]);
+    let t = write_bit(chip.eeprom, (value % 2) as u64);
+    let store = t.store;
+    let next = t.eeprom;
+    let dirty = dirty_behind(store, cart[5] == 1);
+    apply(store, memory);
+    put_eeprom(cart, dirty, next);
 }
 
 // A bit out that leaves the read place changed alone.

@@ -5,7 +5,7 @@ use Prim.Native.Nat.{ℕ, zero, suc, _+_, _*_, _-_, _/_, _%_, _^_, _≤_}
 use native.Mathlib.Nat.{sub-zero, zero-sub, suc-sub-suc, div-one}
 use native.Mathlib.Omega.{arith}
 use lib.ListN.{length, take, drop, replicate, length-append, length-take, length-replicate, length-drop, take-append-drop, drop-of-length-le}
-use lib.Seq.{take-all, drop-at, drop-append-add, length-take-le}
+use lib.Seq.{take-all, drop-at, drop-append-add, drop-length, length-take-le}
 use Rattle.lists.specs.Lists.{digits, withPart, into}
 use Rattle.lists.proofs.Parts.{length-part, drop-part}
 use Rattle.memory.specs.declared.Store.{Store}
@@ -106,3 +106,7 @@ filled-short m f h =
     let l : length (take (length f) m) ≡ length f = length-take-le (length f) m h in
     let d : length (drop (length f) m) ≤ length m - length f = simp length-drop (omega arith) in
     rw (drop-at (take (length f) m) (erased (length m - length f) ++ drop (length m - length f) (drop (length f) m)) (length f) l, drop-of-length-le (drop (length f) m) d, append-nil (erased (length m - length f)), take-all (length m) f h)
+
+pub into-whole : (f d : List ℕ) → length f ≡ length d → into f d ≡ f
+unfolding into
+into-whole f d e = rw (e, drop-length d) (append-nil f)

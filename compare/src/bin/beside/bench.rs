@@ -4,13 +4,18 @@ mod bytes;
 mod calls;
 
 use std::hint::black_box;
+use std::sync::OnceLock;
 use std::time::Instant;
 
 /// Calls between two looks at the clock.
 const BATCH: u32 = 4096;
 const ROUND_SECONDS: f64 = 0.0005;
 
-pub fn run() {
+/// The rows that are timed have this in their names.
+static WANTED: OnceLock<String> = OnceLock::new();
+
+pub fn run(wanted: String) {
+    WANTED.get_or_init(|| wanted);
     println!("| what | the original | the part | ratio |");
     println!("|---|---:|---:|---:|");
     calls::rows();
@@ -33,6 +38,9 @@ fn values<T: Copy>(name: &str, values: &[T], mut original: impl FnMut(T), mut pa
 
 /// A row. Each side's batch does the same `units` pieces of work.
 fn row(name: &str, units: u32, mut original: impl FnMut(), mut part: impl FnMut()) {
+    if !WANTED.get().is_some_and(|wanted| name.contains(wanted)) {
+        return;
+    }
     let batch = seconds(1, &mut original).max(seconds(1, &mut part));
     let batches = (ROUND_SECONDS / batch).ceil() as u32;
     let rounds = if batch < ROUND_SECONDS { 201 } else { 9 };

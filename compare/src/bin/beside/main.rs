@@ -18,11 +18,11 @@ use compare::kind;
 use pair::Pair;
 use run::{Fault, Run};
 
-const USAGE: &str = "usage: beside [--seed HEX] [--fault rust | part | replay], or beside bench";
+const USAGE: &str = "usage: beside [--seed HEX] [--fault rust | part | replay], or beside bench [WORDS OF A ROW]";
 
 fn main() {
     if std::env::args().nth(1).as_deref() == Some("bench") {
-        bench::run();
+        bench::run(std::env::args().nth(2).unwrap_or_default());
     } else {
         beside(arguments());
     }

@@ -39,13 +39,13 @@ returns-2 c =
     ap (λ (r : Reply). (r, a .destination .now)) (c .refuse2 .ensures)
     ∙ ap exportReplied (sym (step-no saveData (a .destination .now) s 13 (sym (e ∙ rw (h, ← c .before .before .file-length .ensures, lt-leb _ _ (c .before .if2 .taken)))) (λ z. omega arith)))
 
-slice-aggregate-copy : tie.Need-slice-aggregate-copy
+slice-aggregate-copy : tie.Need-slice-aggregate-copy-file
 slice-aggregate-copy c =
     let a = c .before .before .before .before .before .before .before .before .before .before .args in
     let y = door-yes (a .cart) (length (a .memory .now)) (c .before .before .before .before .before .before .before .door .result) (c .before .before .before .before .before .before .before .door .ensures) (c .before .before .before .before .before .before .if1 .left) in
     sym (length-take-le (c .before .before .before .file-length .result) (a .memory .now) (omega (arith, c .before .before .before .file-length .ensures, y .1, length-fits (a .cart .kind) (a .cart .chip .eeprom .large))))
 
-copy-requires : tie.Need-copy-requires
+copy-requires : tie.Need-copy-file-requires
 copy-requires c κs =
     let a = c .before .before .before .before .before .before .before .before .before .before .args in
     let y = door-yes (a .cart) (length (a .memory .now)) (c .before .before .before .before .before .before .before .door .result) (c .before .before .before .before .before .before .before .door .ensures) (c .before .before .before .before .before .before .if1 .left) in
@@ -63,7 +63,7 @@ returns-3 c =
     let y = door-yes (a .cart) (length (a .memory .now)) (d .result) (d .ensures) (c .before .before .before .before .before .before .before .before .before .before .if1 .left) in
     let e = door-more (a .cart) (length (a .memory .now)) (holds (fileOf (a .cart .kind) s) (a .destination .now) else 13 ∷ []) (d .result) (d .ensures) (c .before .before .before .before .before .before .before .before .before .before .if1 .left) in
     let h = holds-is s (a .destination .now) (a .cart .kind) (y .1) in
-    ap₂ (λ (r : Reply) (l : List ℕ). (r, l)) (c .done .ensures) (c .before .before .before .copy .ensures)
+    ap₂ (λ (r : Reply) (l : List ℕ). (r, l)) (c .done .ensures) (c .before .before .before .copy-file .ensures)
     ∙ ap (λ (n : ℕ). (done n (a .cart), into (take n (a .memory .now)) (a .destination .now))) (c .before .before .before .before .before .before .before .file-length .ensures)
     ∙ sym (exported-is s (a .destination .now) (a .cart .kind) (y .1))
     ∙ ap exportReplied (sym (step-yes saveData (a .destination .now) s 0 (sym (e ∙ rw (h, ← c .before .before .before .before .before .before .before .file-length .ensures, le-leb _ _ (c .before .before .before .before .before .before .if2 .left)))) refl))

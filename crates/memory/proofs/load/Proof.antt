@@ -14,21 +14,21 @@ use borrow.Author.Needs.{needs}
 use Rattle.memory.proofs.load.Statement.{statement}
 use Rattle.memory.proofs.load.Tie as tie
 
-slice-aggregate-copy : tie.Need-slice-aggregate-copy
-slice-aggregate-copy c = sym (length-take-le _ _ (c .before .before .if1 .taken))
+slice-aggregate-copy-file : tie.Need-slice-aggregate-copy-file
+slice-aggregate-copy-file c = sym (length-take-le _ _ (c .before .before .if1 .taken))
 
-copy-requires : tie.Need-copy-requires
-copy-requires c κs = omega (arith, length-take-le (length (c .before .before .before .before .before .args .memory .now)) (c .before .before .before .before .before .args .file .now) (c .before .before .if1 .taken))
+copy-file-requires : tie.Need-copy-file-requires
+copy-file-requires c κs = omega (arith, length-take-le (length (c .before .before .before .before .before .args .memory .now)) (c .before .before .before .before .before .args .file .now) (c .before .before .if1 .taken))
 
 returns : tie.Need-returns
-returns c = let a = c .before .before .before .before .before .before .before .before .args in c .before .before .copy .ensures ∙ filled-long (length (a .memory .now)) (a .memory .now) (a .file .now) refl (c .before .before .before .before .before .if1 .taken)
+returns c = let a = c .before .before .before .before .before .before .before .before .args in c .before .before .copy-file .ensures ∙ filled-long (length (a .memory .now)) (a .memory .now) (a .file .now) refl (c .before .before .before .before .before .if1 .taken)
 
 returns-2 : tie.Need-returns-2
 returns-2 c =
     let m = c .before .before .before .before .before .before .before .before .before .before .before .args .memory .now in
     let f = c .before .before .before .before .before .before .before .before .before .before .before .args .file .now in
     let e = c .before .before .before .before .before .before .erase .ensures ∙ ap erased (ap length (rest (length f) m) ∙ length-drop (length f) m) in
-    c .before .before .copy2 .ensures
+    c .before .before .copy .ensures
     ∙ ap (λ (ys : List ℕ). into f (take (length f) m ++ (ys ++ drop (length m - length f) (drop (length f) m)))) e
     ∙ filled-short m f (omega arith)
 
@@ -36,8 +36,8 @@ pub load-spec : {M : Type 1} → statement M
 load-spec =
     tie.close
     (tie.spec
-    slice-aggregate-copy
-    copy-requires
+    slice-aggregate-copy-file
+    copy-file-requires
     (λ c. search needs)
     returns
     (λ c. search needs)

@@ -42,7 +42,7 @@ fn reads() {
         ("byte read, Eeprom512", kind::EEPROM512, [0; 18]),
     ] {
         let (cart, part) = open(kind, chip);
-        calls(name, |i| used(original::save_read(&cart, i * 37)), |i| used(part.save_read(i * 37)));
+        calls(name, |i| used(original::save_read(&cart, i * 37)), |i| used(part.save_read(i * 37).value));
     }
 }
 
@@ -65,7 +65,7 @@ fn writes() {
             name,
             &commands,
             |value| original::save_write(&mut cart, 0x5555, value),
-            |value| used(part.save_write(0x5555, value)),
+            |value| used(part.save_write(0x5555, value).refusal),
         );
     }
 }
@@ -80,21 +80,24 @@ fn stream(command: Vec<Call>) -> Vec<u16> {
 }
 
 fn bits() {
-    let (mut cart, mut part) = open(kind::EEPROM512, [0; 18]);
+    let idle = serial(14, 1, 0, 0);
     for words in [17, 68] {
+        let (mut cart, mut part) = open(kind::EEPROM512, idle);
         calls(
             &format!("DMA {words}"),
             |_| original::eeprom_begin_dma(&mut cart, black_box(words)),
-            |_| used(part.eeprom_begin_dma(black_box(words))),
+            |_| used(part.eeprom_begin_dma(black_box(words)).refusal),
         );
     }
     for (name, command) in [
         ("serial bit in, writes of 81 bits", write_block(14, 100, 0x0123_4567_89AB_CDEF)),
         ("serial bit in, addresses of 17 bits", set_address(14, 100)),
     ] {
-        values(name, &stream(command), |bit| original::eeprom_write(&mut cart, bit), |bit| used(part.eeprom_write(bit)));
+        let (mut cart, mut part) = open(kind::EEPROM512, idle);
+        values(name, &stream(command), |bit| original::eeprom_write(&mut cart, bit), |bit| used(part.eeprom_write(bit).refusal));
     }
     let reading = with_block(serial(14, 1, 6, 0), 100);
+    let (mut cart, mut part) = open(kind::EEPROM512, reading);
     row(
         "serial bit out, 68 behind each restore",
         68,
@@ -103,11 +106,12 @@ fn bits() {
             (0..68).for_each(|_| used(original::eeprom_read(&mut cart)));
         },
         || {
-            used(part.restore(&reading));
-            (0..68).for_each(|_| used(part.eeprom_read()));
+            used(part.restore(&reading).refusal);
+            (0..68).for_each(|_| used(part.eeprom_read().value));
         },
     );
-    calls("serial bit out, idle", |_| used(original::eeprom_read(&mut cart)), |_| used(part.eeprom_read()));
+    let (mut cart, mut part) = open(kind::EEPROM512, idle);
+    calls("serial bit out, idle", |_| used(original::eeprom_read(&mut cart)), |_| used(part.eeprom_read().value));
 }
 
 fn states() {
@@ -115,11 +119,11 @@ fn states() {
     let refused = serial(14, 1, 3, 64);
     let (mut cart, mut part) = open(kind::EEPROM512, accepted);
     for (name, chip) in [("restore", accepted), ("restore, refused", refused)] {
-        calls(name, |_| used(original::restore(&mut cart, black_box(&chip))), |_| used(part.restore(black_box(&chip))));
+        calls(name, |_| used(original::restore(&mut cart, black_box(&chip))), |_| used(part.restore(black_box(&chip)).refusal));
     }
     calls("chip state", |_| used(original::chip_state(&cart)), |_| used(part.chip_state()));
-    calls("take the flag", |_| used(original::take_save_dirty(&mut cart)), |_| used(part.take_save_dirty()));
-    calls("window start", |_| used(original::eeprom_window_start(&cart)), |_| used(part.eeprom_window_start()));
+    calls("take the flag", |_| used(original::take_save_dirty(&mut cart)), |_| used(part.take_save_dirty().value));
+    calls("window start", |_| used(original::eeprom_window_start(&cart)), |_| used(part.eeprom_window_start().value));
 }
 
 fn images() {

@@ -1,0 +1,26 @@
+-- `memory::copy_whole` meets its contract. Assumes nothing.
+use mathlib.Core.List.{List}
+use mathlib.Core.Path.{ap, sym, _∙_}
+use Prim.Native.Nat.{ℕ}
+use Rattle.lists.specs.Lists.{into}
+use Rattle.memory.proofs.Memory.{into-whole}
+use borrow.Author.Needs.{needs}
+use Rattle.memory.proofs.copy_whole.Statement.{statement}
+use Rattle.memory.proofs.copy_whole.Tie as tie
+
+returns : tie.Need-returns
+returns c = 
+    c .before .before .copy2 .ensures
+    ∙ ap (λ (xs : List ℕ). into xs (c .before .before .before .before .before .before .before .before .before .before .before .args .s .now)) (c .before .before .before .before .before .before .copy .ensures ∙ into-whole (c .before .before .before .before .before .before .before .before .before .before .before .args .output .now) _ (c .before .before .before .before .before .before .before .before .before .before .before .pre .0 ∙ sym (c .before .before .before .before .before .before .before .before .room .ensures)))
+
+pub copy-whole-spec : {M : Type 1} → statement M
+copy-whole-spec =
+    tie.close
+    (tie.spec
+    (λ c κs. search needs)
+    (λ c. search needs)
+    (λ c κs. search needs)
+    (λ c. search needs)
+    (λ c κs. search needs)
+    (λ c. search needs)
+    returns)
