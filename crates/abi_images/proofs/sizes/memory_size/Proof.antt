@@ -11,14 +11,14 @@ use Rattle.abi_images.proofs.sizes.memory_size.Tie as tie
 
 returns : tie.Need-returns
 unfolding memorySizeAnswer
-returns c = rw (lt-leb _ _ (c .if1 .taken))
+returns c = rw (lt-leb _ 5 (c .if1 .taken))
 
 cast-size : tie.Need-cast-size
 cast-size c = omega (arith, memory-small (c .before .kind-of .result), c .memory-size .ensures)
 
 returns-2 : tie.Need-returns-2
 unfolding memorySizeAnswer
-returns-2 c = rw (le-leb _ _ (c .before .before .if1 .left)) (ap (λ n. (0, n)) (c .memory-size .ensures ∙ ap memorySize (c .before .kind-of .ensures)))
+returns-2 c = rw (le-leb _ 5 (c .before .before .if1 .left)) (ap (λ n. (0, n)) (c .memory-size .ensures ∙ ap memorySize (c .before .kind-of .ensures)))
 
 pub memory-size-spec : {M : Type 1} → statement M
 memory-size-spec =
