@@ -7,7 +7,7 @@ use Rattle.cart.specs.declared.Cartridge.{Cartridge}
 use Rattle.cart.specs.declared.Reply.{Reply}
 use Rattle.cart.specs.ChipState.{chipBytes}
 use Rattle.cart.specs.Record.{fromBytes, recordAllowed}
-use Rattle.cart.specs.Calls.{chipState, questions, accepted, step}
+use Rattle.cart.specs.Calls.{chipState, questions, accepted}
 use Rattle.cart.specs.Replies.{state, replied}
 use Rattle.cart.proofs.Replies.{step-yes}
 use Rattle.abi_record.specs.RecordBytes.{recordBytes, cartOf, isRecord}

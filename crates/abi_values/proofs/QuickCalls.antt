@@ -11,7 +11,7 @@ use Rattle.kind.specs.Kind.{usesEeprom, windowStart}
 use Rattle.cart.specs.declared.Cartridge.{Cartridge}
 use Rattle.cart.specs.ChipState.{bit}
 use Rattle.cart.specs.Record.{recordAllowed}
-use Rattle.cart.specs.Calls.{takeSaveDirty, usesEepromOf, eepromWindowStart, questions, accepted, step}
+use Rattle.cart.specs.Calls.{takeSaveDirty, usesEepromOf, eepromWindowStart, questions, accepted}
 use Rattle.cart.specs.Replies.{state, cartWith}
 use Rattle.cart.proofs.Replies.{step-yes}
 use Rattle.abi_record.specs.RecordBytes.{recordBytes, kindOf, cartOf, isRecord}
