@@ -15,7 +15,7 @@ use Rattle.cart.specs.Calls.{saveRead, saveWrite, readSave, writeSave, question
 use Rattle.cart.proofs.Replies.{step-no, step-yes}
 use Rattle.abi_record.specs.RecordBytes.{recordBytes, kindOf, cartOf, isRecord}
 use Rattle.abi_record.specs.Abi.{called, calledAt}
-use Rattle.in_place.specs.InPlace.{stateOf, bytesOf, heldAt, readAt}
+use Rattle.in_place.specs.InPlace.{stateOf, bytesOf, heldAt, readAt, writeAt}
 
 module _ (r m : List ℕ) (h : isRecord r ≡ true) (g : (recordAllowed (cartOf r) ≡ true) × (recordBytes (cartOf r) ≡ r)) where
   -- question 3 answered no
@@ -48,7 +48,7 @@ module _ (r m : List ℕ) (h : isRecord r ≡ true) (g : (recordAllowed (cartOf 
         rw (h, step-yes (saveRead a) [] (stateOf r m) 0 (rw (g .0, eq-eqb (length m) (memorySize (kindOf (getD r 4 0))) n)) refl)
         (λ i. (0, sym (g .1) i, m, e i))
 
-  -- question 3 and the byte
+  -- question 3 and the byte, read and written
   pub read-held : (a place : ℕ) {x p : ℕ} → _≡_ {A = ℕ × ℕ} (x, p) (readAt (kindOf (getD r 4 0)) (stateOf r m) a place)
       → (x, r, m, p) ≡ calledAt (step (saveRead a) []) r m place
   unfolding heldAt
@@ -57,3 +57,12 @@ module _ (r m : List ℕ) (h : isRecord r ≡ true) (g : (recordAllowed (cartOf 
       ∙ split (λ (q : ℕ × ℕ). (q .0, r, m, q .1) ≡ calledAt (step (saveRead a) []) r m place) (eqb (length m) (memorySize (kindOf (getD r 4 0))))
       (λ t. read-yes (eqb-true (length m) (memorySize (kindOf (getD r 4 0))) t) a place refl)
       (λ t. read-no (eqb-false (length m) (memorySize (kindOf (getD r 4 0))) t) a place)
+
+  pub write-held : (a v : ℕ) {x : ℕ} {r' m' : List ℕ} → _≡_ {A = ℕ × (List ℕ × List ℕ)} (x, (r', m')) (writeAt (kindOf (getD r 4 0)) r m a v)
+      → (x, r', m') ≡ called (step (saveWrite a v) []) r m
+  unfolding heldAt
+  write-held a v e =
+      (λ i. (e i .0, e i .1 .0, e i .1 .1))
+      ∙ split (λ (q : ℕ × (List ℕ × List ℕ)). (q .0, q .1 .0, q .1 .1) ≡ called (step (saveWrite a v) []) r m) (eqb (length m) (memorySize (kindOf (getD r 4 0))))
+      (λ t. write-yes (eqb-true (length m) (memorySize (kindOf (getD r 4 0))) t) a v refl)
+      (λ t. write-no (eqb-false (length m) (memorySize (kindOf (getD r 4 0))) t) a v)

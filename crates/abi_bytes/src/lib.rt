@@ -1,10 +1,8 @@
 // `save_read` and `save_write` on the 24 bytes of a record. In front of question 2 stands the quick test of a usual record.
 
-mod asked;
-
 use abi_record::is_record;
-use asked::write_record;
 use in_place::read_in_place;
+use in_place::write_in_place;
 use usual_record::known;
 use usual_record::read_usual;
 use usual_record::write_usual;
@@ -41,7 +39,7 @@ fn write_any(cart: &mut [u8; 24], memory: &mut [u8], address: u32, value: u8) ->
     if !is_record(cart) {
         return 2;
     }
-    write_record(cart, &mut memory[..], address, value)
+    write_in_place(&mut cart[..], &mut memory[..], address, value)
 }
 
 pub fn save_write(cart: &mut [u8; 24], memory: &mut [u8], address: u32, value: u8) -> u32
@@ -53,5 +51,5 @@ pub fn save_write(cart: &mut [u8; 24], memory: &mut [u8], address: u32, value: u
     if !write_usual(cart) {
         return write_any(cart, memory, address, value);
     }
-    write_record(cart, memory, address, value)
+    write_in_place(&mut cart[..], memory, address, value)
 }

@@ -6,7 +6,7 @@ use Rattle.abi_bytes.proofs.save_read.Statement.{statement}
 use Rattle.abi_bytes.proofs.save_read.Tie as tie
 
 returns-3 : tie.Need-returns-3
-returns-3 c = let h = c .before .before .before .before .byte-usual .ensures (granted _ refl (c .before .before .before .if2 .left)) (granted _ (c .before .before .before .before .before .before .known .ensures .0) (c .before .before .before .before .before .if1 .left)) in
+returns-3 c = let h = c .before .before .before .before .read-usual .ensures (granted _ refl (c .before .before .before .if2 .left)) (granted _ (c .before .before .before .before .before .before .known .ensures .0) (c .before .before .before .before .before .if1 .left)) in
     let g = c .before .before .before .before .before .before .known .ensures .1 h in
     let a = c .before .before .before .before .before .before .before .before .args in
     read-held (a .cart .now) (a .memory .now) h g (a .address) (a .value .now) (c .read-in-place .ensures)
