@@ -1,5 +1,6 @@
--- The serial calls, made on the bytes of a usual record. Assumes nothing.
+-- The serial calls, made on the bytes as they are lent. Assumes nothing.
 use mathlib.Core.Path.{_≡_, refl, sym, ap, _∙_}
+use mathlib.Core.Logic.{_≢_}
 use mathlib.Core.Bool.{true, false}
 use mathlib.Core.List.{List, []}
 use Prim.Native.Nat.{ℕ, _<_, _≤_}
@@ -7,7 +8,7 @@ use native.Mathlib.Omega.{arith}
 use lib.Dec.{eqb}
 use lib.ListN.{length, getD, set}
 use lib.Seq.{getD-drop}
-use borrow.Author.Tests.{eq-eqb, eqb-false, lt-ltb}
+use borrow.Author.Tests.{eq-eqb, ne-eqb, eqb-false, lt-ltb}
 use Rattle.lists.specs.Lists.{lowFirst}
 use Rattle.lists.specs.Questions.{asked}
 use Rattle.lists.proofs.Bools.{split, cases}
@@ -20,7 +21,7 @@ use Rattle.cart.specs.ChipState.{phaseOf, chipBytes, chipOf}
 use Rattle.cart.specs.Record.{recordAllowed}
 use Rattle.cart.specs.Calls.{eepromBeginDma, eepromWrite, eepromRead, eepromOf, withEeprom, withChip, questions, accepted, step}
 use Rattle.cart.specs.Replies.{state, chipRecord, cartWith}
-use Rattle.cart.proofs.Replies.{step-yes}
+use Rattle.cart.proofs.Replies.{step-no, step-yes}
 use Rattle.cart.proofs.Sound.{eeprom-size}
 use Rattle.abi_record.specs.RecordBytes.{recordBytes, kindOf, cartOf, isRecord}
 use Rattle.abi_record.specs.Abi.{called, calledAt}
@@ -90,15 +91,29 @@ module _ (r : List ℕ) (h : isRecord r ≡ true) (g : (recordAllowed (cartOf r)
         rw (h, step-yes (eepromBeginDma words) [] (state (cartOf r) m) 0 (rw (g .0, s)) refl, s, f)
         (λ i. (0, sym (g .1) i, m))
 
+  -- a bit in refused: the memory's length, and the kind
+  module _ (m : List ℕ) (v : ℕ) where
+    pub no-memory : length m ≢ memorySize (kindOf (getD r 4 0)) → (3, r, m) ≡ called (step (eepromWrite v) []) r m
+    unfolding called questions cartOf
+    no-memory n =
+        rw (h, step-no (eepromWrite v) [] (stateOf r m) 3 (rw (g .0, ne-eqb (length m) (memorySize (kindOf (getD r 4 0))) n)) (λ z. omega (arith, z)))
+        (λ i. (3, sym (g .1) i, m))
+
+    pub no-eeprom : length m ≡ memorySize (kindOf (getD r 4 0)) → usesEeprom (kindOf (getD r 4 0)) ≡ false → (4, r, m) ≡ called (step (eepromWrite v) []) r m
+    unfolding called questions cartOf
+    no-eeprom n u =
+        rw (h, step-no (eepromWrite v) [] (stateOf r m) 4 (rw (g .0, eq-eqb (length m) (memorySize (kindOf (getD r 4 0))) n, u)) (λ z. omega (arith, z)))
+        (λ i. (4, sym (g .1) i, m))
+
   -- serial bits, of a kind with an EEPROM and its memory
   module _ (m : List ℕ) (n : length m ≡ 8192) (u : usesEeprom (kindOf (getD r 4 0)) ≡ true) where
     size : length m ≡ memorySize (kindOf (getD r 4 0))
     size = n ∙ sym (eeprom-size (kindOf (getD r 4 0)) u)
 
-    pub shift-quick : (v : ℕ) {r' : List ℕ} → _≡_ {A = List ℕ × List ℕ} (r', m) (bytesOf (withEeprom (stateOf r m) (bitIn (eepromOf (stateOf r m)) v)))
-        → (0, r', m) ≡ called (step (eepromWrite v) []) r m
+    pub bit-in : (v : ℕ) {r' m' : List ℕ} → _≡_ {A = List ℕ × List ℕ} (r', m') (bytesOf (withEeprom (stateOf r m) (bitIn (eepromOf (stateOf r m)) v)))
+        → (0, r', m') ≡ called (step (eepromWrite v) []) r m
     unfolding called questions accepted cartOf
-    shift-quick v e =
+    bit-in v e =
         rw (h, step-yes (eepromWrite v) [] (stateOf r m) 0 (rw (g .0, eq-eqb (length m) (memorySize (kindOf (getD r 4 0))) size, u)) refl)
         (λ i. (0, e i .0, e i .1))
 

@@ -59,13 +59,7 @@ fn write_flash(cart: &mut [u8], memory: &mut [u8], address: u32, value: u8)
 }
 
 // A byte of a flash kind's memory, which is to have that size, or question 3; the next two are of Sram and of the EEPROM kinds.
-fn flash_kind_write(
-    size: usize,
-    cart: &mut [u8],
-    memory: &mut [u8],
-    address: u32,
-    value: u8,
-) -> u32
+fn flash_kind_write(size: usize, cart: &mut [u8], memory: &mut [u8], address: u32, value: u8) -> u32
     requires { ⌜ (length (now cart) ≡ 24) × (isRecord (now cart) ≡ true) × (0 < size) × (size % 4096 ≡ 0) ⌝ }
     ensures { λ x. ⌜ (x, (now (cart .exit), now (memory .exit))) ≡ heldAt size (now (memory .entry)) (bytesOf (withFlash (stateOf (now (cart .entry)) (now (memory .entry))) (writeByte (flashOf (stateOf (now (cart .entry)) (now (memory .entry)))) address value))) (now (cart .entry), now (memory .entry)) ⌝ }
 {

@@ -1,7 +1,7 @@
 use Rattle.lists.proofs.Bools.{granted}
 use mathlib.Core.Path.{refl, ap, _∙_}
 use Rattle.kind.specs.Kind.{usesEeprom}
-use Rattle.abi_serial.proofs.QuickBits.{shift-quick}
+use Rattle.abi_serial.proofs.QuickBits.{bit-in}
 use borrow.Author.Needs.{needs}
 use Rattle.abi_serial.proofs.eeprom_write.Statement.{statement}
 use Rattle.abi_serial.proofs.eeprom_write.Tie as tie
@@ -17,7 +17,7 @@ returns-5 c = let q = c .before .before .before .shift-usual .ensures (granted _
     let g = c .before .before .before .before .before .before .before .before .before .before .known .ensures .1 h in
     let u = granted _ (c .before .before .before .before .before .before .uses-eeprom .ensures ∙ ap usesEeprom (c .before .before .before .before .before .before .before .kind-of .ensures)) (c .before .before .before .before .before .if3 .left) in
     let a = c .before .before .before .before .before .before .before .before .before .before .before .before .before .before .args in
-    shift-quick (a .cart .now) h g (a .memory .now) (c .before .before .before .before .before .before .before .before .before .before .before .before .if1 .left) u (a .value) (c .shift-in-place .ensures (a .memory .now))
+    bit-in (a .cart .now) h g (a .memory .now) (c .before .before .before .before .before .before .before .before .before .before .before .before .if1 .left) u (a .value) (c .shift-in-place .ensures (a .memory .now))
 
 pub eeprom-write-spec : {M : Type 1} → statement M
 eeprom-write-spec =

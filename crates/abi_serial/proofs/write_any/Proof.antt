@@ -1,8 +1,14 @@
 -- `abi_serial::write_any` meets its contract. Assumes nothing.
+use mathlib.Core.Path.{sym, ap, _∙_}
 use mathlib.Core.List.{[]}
-use Rattle.cart.specs.Calls.{eepromWrite, step}
+use lib.ListN.{getD}
 use Rattle.lists.proofs.Bools.{denied, granted}
-use Rattle.abi_record.proofs.Calls.{called-no, called-yes}
+use Rattle.kind.specs.Kind.{memorySize, usesEeprom}
+use Rattle.cart.specs.Calls.{eepromWrite, step}
+use Rattle.cart.proofs.Sound.{eeprom-size}
+use Rattle.abi_record.specs.RecordBytes.{kindOf}
+use Rattle.abi_record.proofs.Calls.{called-no}
+use Rattle.abi_serial.proofs.QuickBits.{no-memory, no-eeprom, bit-in}
 use borrow.Author.Needs.{needs}
 use Rattle.abi_serial.proofs.write_any.Statement.{statement}
 use Rattle.abi_serial.proofs.write_any.Tie as tie
@@ -10,11 +16,33 @@ use Rattle.abi_serial.proofs.write_any.Tie as tie
 returns : tie.Need-returns
 returns c = let a = c .before .before .before .before .args in called-no (step (eepromWrite (a .value)) []) (a .cart .now) (a .memory .now) (denied _ (c .before .is-record .ensures .0) (c .if1 .taken))
 
-cart-of-requires : tie.Need-cart-of-requires
-cart-of-requires c κs = granted _ (c .before .before .is-record .ensures .0) (c .before .if1 .left)
-
 returns-2 : tie.Need-returns-2
-returns-2 c = let a = c .before .before .before .before .before .before .before .before .before .before .before .before .args in called-yes (step (eepromWrite (a .value)) []) (a .cart .now) (a .memory .now) (c .before .before .before .before .eeprom-write .result) (granted _ (c .before .before .before .before .before .before .before .before .before .is-record .ensures .0) (c .before .before .before .before .before .before .before .before .if1 .left)) (c .before .before .before .before .before .before .cart-of .ensures .0) (c .before .before .before .before .eeprom-write .ensures) (c .write-back .ensures)
+returns-2 c =
+    let a = c .before .before .before .before .before .before .before .before .args in
+    let h = granted _ (c .before .before .before .before .before .is-record .ensures .0) (c .before .before .before .before .if1 .left) in
+    no-memory (a .cart .now) h (c .before .before .before .before .before .is-record .ensures .1 h) (a .memory .now) (a .value) (λ e. c .if2 .taken (e ∙ sym (c .before .memory-size .ensures ∙ ap memorySize (c .before .before .kind-of .ensures))))
+
+returns-3 : tie.Need-returns-3
+returns-3 c =
+    let a = c .before .before .before .before .before .before .before .before .before .before .args in
+    let h = granted _ (c .before .before .before .before .before .before .before .is-record .ensures .0) (c .before .before .before .before .before .before .if1 .left) in
+    let n = c .before .before .if2 .left ∙ c .before .before .before .memory-size .ensures ∙ ap memorySize (c .before .before .before .before .kind-of .ensures) in
+    no-eeprom (a .cart .now) h (c .before .before .before .before .before .before .before .is-record .ensures .1 h) (a .memory .now) (a .value) n (denied _ (c .before .uses-eeprom .ensures ∙ ap usesEeprom (c .before .before .before .before .kind-of .ensures)) (c .if3 .taken))
+
+step-in-place-requires : tie.Need-step-in-place-requires
+step-in-place-requires c κs =
+    let h = granted _ (c .before .before .before .before .before .before .before .before .before .is-record .ensures .0) (c .before .before .before .before .before .before .before .before .if1 .left) in
+    let u = granted _ (c .before .before .before .uses-eeprom .ensures) (c .before .before .if3 .left) in
+    (search needs, h, c .before .before .before .before .if2 .left ∙ c .before .before .before .before .before .memory-size .ensures ∙ eeprom-size (c .before .before .before .before .before .before .kind-of .result) u)
+
+returns-4 : tie.Need-returns-4
+returns-4 c =
+    let a = c .before .before .before .before .before .before .before .before .before .before .before .before .before .before .before .args in
+    let h = granted _ (c .before .before .before .before .before .before .before .before .before .before .before .before .is-record .ensures .0) (c .before .before .before .before .before .before .before .before .before .before .before .if1 .left) in
+    let k = c .before .before .before .before .before .before .before .before .before .kind-of .ensures in
+    let u = granted _ (c .before .before .before .before .before .before .uses-eeprom .ensures ∙ ap usesEeprom k) (c .before .before .before .before .before .if3 .left) in
+    let n = c .before .before .before .before .before .before .before .if2 .left ∙ c .before .before .before .before .before .before .before .before .memory-size .ensures ∙ ap memorySize k ∙ eeprom-size (kindOf (getD (a .cart .now) 4 0)) u in
+    bit-in (a .cart .now) h (c .before .before .before .before .before .before .before .before .before .before .before .before .is-record .ensures .1 h) (a .memory .now) n u (a .value) (c .before .before .step-in-place .ensures)
 
 pub write-any-spec : {M : Type 1} → statement M
 write-any-spec =
@@ -22,8 +50,12 @@ write-any-spec =
     (tie.spec
     (λ c κs. search needs)
     returns
-    cart-of-requires
-    (λ c κs. search needs)
-    (λ c κs. search needs)
     (λ c. search needs)
-    returns-2)
+    (λ c κs. search needs)
+    (λ c κs. search needs)
+    returns-2
+    (λ c κs. search needs)
+    returns-3
+    step-in-place-requires
+    (λ c. search needs)
+    returns-4)

@@ -13,7 +13,7 @@ returns : tie.Need-returns
 returns c = let a = c .before .before .args in held-no 8192 (a .memory .now) (stored (Byte (a .address % 8192) (a .value)) (a .memory .now)) (a .memory .now) (c .if1 .taken)
 
 returns-2 : tie.Need-returns-2
-returns-2 c = 
+returns-2 c =
     let a = c .before .before .before .before .before .before .args in
     ap (λ (l : List ℕ). (0, l)) (c .before .before .put-byte .ensures)
     ∙ held-yes 8192 (a .memory .now) (stored (Byte (a .address % 8192) (a .value)) (a .memory .now)) (a .memory .now) (c .before .before .before .before .if1 .left)

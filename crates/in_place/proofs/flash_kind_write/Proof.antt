@@ -11,13 +11,13 @@ use Rattle.in_place.proofs.flash_kind_write.Statement.{statement}
 use Rattle.in_place.proofs.flash_kind_write.Tie as tie
 
 returns : tie.Need-returns
-returns c = 
+returns c =
     let a = c .before .before .before .args in
     let s = stateOf (a .cart .now) (a .memory .now) in
     held-no (a .size) (a .memory .now) (bytesOf (withFlash s (writeByte (flashOf s) (a .address) (a .value)))) (a .cart .now, a .memory .now) (c .if1 .taken)
 
 returns-2 : tie.Need-returns-2
-returns-2 c = 
+returns-2 c =
     let a = c .before .before .before .before .before .before .before .before .before .before .args in
     let s = stateOf (a .cart .now) (a .memory .now) in
     ap (λ (p : List ℕ × List ℕ). (0, p)) (c .before .before .before .before .write-flash .ensures)

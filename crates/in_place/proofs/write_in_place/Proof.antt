@@ -17,7 +17,7 @@ use Rattle.in_place.proofs.write_in_place.Tie as tie
 
 returns : tie.Need-returns
 unfolding writeSave
-returns c = 
+returns c =
     let a = c .before .before .before .before .before .before .before .before .before .before .before .before .args in
     let r = a .cart .now in
     let m = a .memory .now in
@@ -28,7 +28,7 @@ returns c =
 
 returns-2 : tie.Need-returns-2
 unfolding writeSave
-returns-2 c = 
+returns-2 c =
     let a = c .before .before .before .before .before .before .before .args in
     let r = a .cart .now in
     let m = a .memory .now in
@@ -39,7 +39,7 @@ returns-2 c =
 
 returns-3 : tie.Need-returns-3
 unfolding writeSave
-returns-3 c = 
+returns-3 c =
     let a = c .before .before .before .before .before .before .before .before .before .args in
     let r = a .cart .now in
     let m = a .memory .now in
@@ -51,7 +51,7 @@ returns-3 c =
 
 returns-4 : tie.Need-returns-4
 unfolding writeSave
-returns-4 c = 
+returns-4 c =
     let a = c .before .before .before .before .before .before .before .before .before .before .before .before .before .args in
     let r = a .cart .now in
     c .before .before .before .before .flash-kind-write .ensures
@@ -59,7 +59,7 @@ returns-4 c =
 
 returns-5 : tie.Need-returns-5
 unfolding writeSave
-returns-5 c = 
+returns-5 c =
     let a = c .before .before .before .before .before .before .before .before .before .before .before .before .before .args in
     let r = a .cart .now in
     c .before .before .before .before .flash-kind-write2 .ensures

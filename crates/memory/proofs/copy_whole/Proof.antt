@@ -9,7 +9,7 @@ use Rattle.memory.proofs.copy_whole.Statement.{statement}
 use Rattle.memory.proofs.copy_whole.Tie as tie
 
 returns : tie.Need-returns
-returns c = 
+returns c =
     c .before .before .copy2 .ensures
     ∙ ap (λ (xs : List ℕ). into xs (c .before .before .before .before .before .before .before .before .before .before .before .args .s .now)) (c .before .before .before .before .before .before .copy .ensures ∙ into-whole (c .before .before .before .before .before .before .before .before .before .before .before .args .output .now) _ (c .before .before .before .before .before .before .before .before .before .before .before .pre .0 ∙ sym (c .before .before .before .before .before .before .before .before .room .ensures)))
 

@@ -18,7 +18,7 @@ returns-3 : tie.Need-returns-3
 returns-3 c = λ e h. never e
 
 returns-4 : tie.Need-returns-4
-returns-4 c = 
+returns-4 c =
     λ e h.
     let z = c .low64 .ensures in
     let l : c .low64 .result ≤ 1 = leb-true _ 1 e in

@@ -19,7 +19,7 @@ use Rattle.in_place.proofs.serial.step_in_place.Tie as tie
 
 write-bit-requires : tie.Need-write-bit-requires
 unfolding cartOf
-write-bit-requires c κs = 
+write-bit-requires c κs =
     let r = c .before .before .before .before .before .args .cart .now in
     let q : c .chip-of .result ≡ cartOf r .chip = c .chip-of .ensures ∙ ap chipOf (rest 6 r) in
     let g = good-record r (λ i. omega (arith, c .before .before .before .before .slice-known .given i)) (c .before .before .before .before .before .pre .1) in
@@ -27,7 +27,7 @@ write-bit-requires c κs =
 
 apply-requires : tie.Need-apply-requires
 unfolding cartOf
-apply-requires c κs = 
+apply-requires c κs =
     let a = c .before .before .before .before .before .before .before .before .before .before .args in
     let r = a .cart .now in
     let n = length (a .memory .now) in
@@ -40,7 +40,7 @@ apply-requires c κs =
 
 returns : tie.Need-returns
 unfolding cartOf
-returns c = 
+returns c =
     let a = c .before .before .before .before .before .before .before .before .before .before .before .before .before .before .before .before .before .args in
     let r = a .cart .now in
     let q : c .before .before .before .before .before .before .before .before .before .before .before .before .chip-of .result ≡ cartOf r .chip = c .before .before .before .before .before .before .before .before .before .before .before .before .chip-of .ensures ∙ ap chipOf (rest 6 r) in
