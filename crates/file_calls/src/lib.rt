@@ -7,12 +7,12 @@ use cart::door;
 use cart::refuse;
 use cart::with_eeprom;
 use eeprom::told;
+use file_bytes::copy_file;
 use files::SaveFit;
 use files::kept_part;
 use files::save_fit;
 use kind::SaveType;
 use kind::uses_eeprom;
-use memory::copy_file;
 ghost use mathlib.Core.Path.{_≡_};
 ghost use mathlib.Core.Bool.{_||_, _&&_};
 ghost use mathlib.Core.List.{[]};
@@ -45,7 +45,7 @@ fn load(cart: Cartridge, memory: &mut [u8], file: &[u8]) -> Cartridge
     let kind = cart.kind;
     let chip = cart.chip;
     let e = chip.eeprom;
-    memory::load(memory, file);
+    file_bytes::load(memory, file);
     with_eeprom(
         cart,
         cart.dirty,

@@ -4,9 +4,9 @@ use mathlib.Core.List.{List, [], _∷_, _++_, append-nil}
 use Prim.Native.Nat.{ℕ, zero, suc, _+_, _*_, _-_, _/_, _%_, _^_, _≤_}
 use native.Mathlib.Nat.{sub-zero, zero-sub, suc-sub-suc, div-one}
 use native.Mathlib.Omega.{arith}
-use lib.ListN.{length, take, drop, replicate, length-append, length-take, length-replicate, length-drop, take-append-drop, drop-of-length-le}
-use lib.Seq.{take-all, drop-at, drop-append-add, drop-length, length-take-le}
-use Rattle.lists.specs.Lists.{digits, withPart, into}
+use lib.ListN.{length, take, drop, replicate, length-append, length-take, length-replicate, length-drop, take-append-drop}
+use lib.Seq.{take-all, drop-append-add, length-take-le}
+use Rattle.lists.specs.Lists.{digits, withPart}
 use Rattle.lists.proofs.Parts.{length-part, drop-part}
 use Rattle.memory.specs.declared.Store.{Store}
 use Rattle.memory.specs.Memory.{erased, Fits, filled}
@@ -24,7 +24,7 @@ pub drop-erased : (i n : ℕ) → drop i (erased n) ≡ erased (n - i)
 unfolding erased
 drop-erased i n = drop-replicate i n 255
 
-erased-0 : erased 0 ≡ []
+pub erased-0 : erased 0 ≡ []
 unfolding erased
 erased-0 = refl
 
@@ -89,24 +89,3 @@ length-mid m a k h = simp (length-take, length-drop) (omega arith)
 -- what each store asks, and leaves, by its case
 pub fits-case : (store known : Store) (n : ℕ) → store ≡ known → Fits store n → Fits known n
 fits-case store known n e f = subst (λ (s : Store). Fits s n) e f
-
--- a file that is at least as long as the memory, and a shorter one, laid over erased bytes
-pub filled-long : (n : ℕ) (m f : List ℕ) → length m ≡ n → n ≤ length f → into (take n f) m ≡ filled n f
-unfolding into filled
-filled-long n m f e h =
-    let l : length (take n f) ≡ n = length-take-le n f h in
-    let z : n - length f ≡ 0 = omega arith in
-    let k : length m ≤ n = omega arith in
-    rw (l, z, drop-of-length-le m k, erased-0)
-
-pub filled-short : (m f : List ℕ) → length f ≤ length m
-    → into f (take (length f) m ++ (erased (length m - length f) ++ drop (length m - length f) (drop (length f) m))) ≡ filled (length m) f
-unfolding into filled
-filled-short m f h =
-    let l : length (take (length f) m) ≡ length f = length-take-le (length f) m h in
-    let d : length (drop (length f) m) ≤ length m - length f = simp length-drop (omega arith) in
-    rw (drop-at (take (length f) m) (erased (length m - length f) ++ drop (length m - length f) (drop (length f) m)) (length f) l, drop-of-length-le (drop (length f) m) d, append-nil (erased (length m - length f)), take-all (length m) f h)
-
-pub into-whole : (f d : List ℕ) → length f ≡ length d → into f d ≡ f
-unfolding into
-into-whole f d e = rw (e, drop-length d) (append-nil f)

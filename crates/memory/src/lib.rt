@@ -1,14 +1,13 @@
 // The save memory, and what a call may store in it.
 
-use lists::copy;
 use lists::fill;
 ghost use mathlib.Core.Bool.{_||_};
 ghost use mathlib.Core.Path.{_≡_};
 ghost use Prim.Native.Nat.{_+_, _*_, _≤_, _<_};
 ghost use lib.ListN.{length};
-ghost use Rattle.lists.specs.Lists.{digits, into};
+ghost use Rattle.lists.specs.Lists.{digits};
 ghost use Rattle.memory.specs.declared.Store.the-variants.{Byte, Block, Sector};
-ghost use Rattle.memory.specs.Memory.{erased, stored, stores, Fits, filled};
+ghost use Rattle.memory.specs.Memory.{erased, stored, stores, Fits};
 
 // What a chip's step wants stored. One function applies it, so that a step itself touches no memory.
 pub enum Store {
@@ -93,46 +92,4 @@ pub fn dirty_behind(store: Store, dirty: bool) -> bool
         Store::Sector(_) => true,
         Store::Chip => true,
     }
-}
-
-fn room() -> [u8; 8192]
-    ensures { λ r. ⌜ length r ≡ 8192 ⌝ }
-{
-    [0; 8192]
-}
-
-// By way of an array that lies apart from both, which the compiler leaves out: one move of the whole.
-fn copy_whole(s: &mut [u8], output: &[u8])
-    requires { ⌜ (length (now output) ≡ 8192) × (8192 ≤ length (now s)) ⌝ }
-    ensures { λ _. ⌜ now (s .exit) ≡ into (now (output .entry)) (now (s .entry)) ⌝ }
-{
-    let mut held = room();
-    copy(&mut held[..], output);
-    copy(s, &held[..]);
-}
-
-// `copy`, at the length of an EEPROM's memory in one move.
-pub fn copy_file(s: &mut [u8], output: &[u8])
-    requires { ⌜ length (now output) ≤ length (now s) ⌝ }
-    ensures { λ _. ⌜ now (s .exit) ≡ into (now (output .entry)) (now (s .entry)) ⌝ }
-{
-    if output.len() == 8192 {
-        copy_whole(s, output);
-        return;
-    }
-    copy(s, output);
-}
-
-// FFh everywhere, then the file's first bytes.
-pub fn load(memory: &mut [u8], file: &[u8])
-    ensures { λ _. ⌜ now (memory .exit) ≡ filled (length (now (memory .entry))) (now (file .entry)) ⌝ }
-{
-    let n = memory.len();
-    if n <= file.len() {
-        copy_file(memory, &file[..n]);
-        return;
-    }
-    let k = file.len();
-    erase(&mut memory[k..]);
-    copy(memory, file);
 }

@@ -1,18 +1,18 @@
--- `memory::load` meets its contract. Assumes nothing.
+-- `file_bytes::load` meets its contract. Assumes nothing.
 use mathlib.Core.List.{List, _++_}
 use Prim.Native.Nat.{ℕ, _-_}
 use lib.ListN.{take, drop, length-drop}
 use Rattle.lists.specs.Lists.{into}
 use Rattle.lists.proofs.Parts.{rest}
 use Rattle.memory.specs.Memory.{erased}
 use mathlib.Core.Path.{refl, ap, sym, _∙_}
 use native.Mathlib.Omega.{arith}
 use lib.ListN.{length}
 use lib.Seq.{length-take-le}
-use Rattle.memory.proofs.Memory.{filled-long, filled-short}
+use Rattle.file_bytes.proofs.Loads.{filled-long, filled-short}
 use borrow.Author.Needs.{needs}
-use Rattle.memory.proofs.load.Statement.{statement}
-use Rattle.memory.proofs.load.Tie as tie
+use Rattle.file_bytes.proofs.load.Statement.{statement}
+use Rattle.file_bytes.proofs.load.Tie as tie
 
 slice-aggregate-copy-file : tie.Need-slice-aggregate-copy-file
 slice-aggregate-copy-file c = sym (length-take-le _ _ (c .before .before .if1 .taken))

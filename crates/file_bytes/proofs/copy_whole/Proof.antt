@@ -1,12 +1,12 @@
--- `memory::copy_whole` meets its contract. Assumes nothing.
+-- `file_bytes::copy_whole` meets its contract. Assumes nothing.
 use mathlib.Core.List.{List}
 use mathlib.Core.Path.{ap, sym, _∙_}
 use Prim.Native.Nat.{ℕ}
 use Rattle.lists.specs.Lists.{into}
-use Rattle.memory.proofs.Memory.{into-whole}
+use Rattle.file_bytes.proofs.Loads.{into-whole}
 use borrow.Author.Needs.{needs}
-use Rattle.memory.proofs.copy_whole.Statement.{statement}
-use Rattle.memory.proofs.copy_whole.Tie as tie
+use Rattle.file_bytes.proofs.copy_whole.Statement.{statement}
+use Rattle.file_bytes.proofs.copy_whole.Tie as tie
 
 returns : tie.Need-returns
 returns c =
