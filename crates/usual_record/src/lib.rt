@@ -93,21 +93,20 @@ fn byte_usual_in(bytes: &[u8]) -> bool
     flash_by_kind(bytes)
 }
 
-// A flash kind, for a read: ID mode and the serial chip at rest in one number. Behind a write, which stores single bytes, reading eight at once
-// has to wait, so that a write is tested by `flash_usual`.
-fn flash_read_usual(bytes: &[u8]) -> bool
+fn read_usual_in(bytes: &[u8]) -> bool
     requires { ⌜ length (now bytes) ≡ 24 ⌝ }
     ensures { λ b. ⌜ (b ≡ true → isKnown (now (bytes .entry)) ≡ true → isRecord (now (bytes .entry)) ≡ true) ⌝ }
 {
     if 1 < bytes[5] {
         return false;
     }
+    if bytes[6] != 0 {
+        return false;
+    }
     if 1 < bytes[7] {
         return false;
     }
-    if !state_allowed(bytes[6]) {
-        return false;
-    }
+    // ID mode and the serial chip
     low64(
         low32(bytes[8], bytes[9], bytes[10], bytes[11]),
         low32(bytes[12], bytes[13], bytes[14], bytes[15]),
@@ -115,26 +114,15 @@ fn flash_read_usual(bytes: &[u8]) -> bool
         <= 1
 }
 
-fn read_usual_in(bytes: &[u8]) -> bool
-    requires { ⌜ length (now bytes) ≡ 24 ⌝ }
-    ensures { λ b. ⌜ (b ≡ true → isKnown (now (bytes .entry)) ≡ true → isRecord (now (bytes .entry)) ≡ true) ⌝ }
-{
-    if bytes[4] < 2 {
-        return byte_usual_in(bytes);
-    }
-    if 3 < bytes[4] {
-        return byte_usual_in(bytes);
-    }
-    flash_read_usual(bytes)
-}
-
-// The serial chip is at rest, and, but on a flash kind, the flash chip too: for a read, and for a write.
+// For a read: neither chip is in a command. A write needs another test: it stores single bytes, and reading eight of them at once has to wait for
+// that.
 pub fn read_usual(r: &[u8; 24]) -> bool
     ensures { λ b. ⌜ (b ≡ true → isKnown (now (r .entry)) ≡ true → isRecord (now (r .entry)) ≡ true) ⌝ }
 {
     read_usual_in(&r[..])
 }
 
+// For a write: the serial chip is at rest, and, but on a flash kind, the flash chip too.
 pub fn write_usual(r: &[u8; 24]) -> bool
     ensures { λ b. ⌜ (b ≡ true → isKnown (now (r .entry)) ≡ true → isRecord (now (r .entry)) ≡ true) ⌝ }
 {
