@@ -13,9 +13,9 @@ use Rattle.kind.specs.Kind.{memorySize}
 use Rattle.cart.specs.Record.{recordAllowed}
 use Rattle.cart.specs.Calls.{saveRead, saveWrite, readSave, writeSave, questions, accepted, step}
 use Rattle.cart.proofs.Replies.{step-no, step-yes}
-use Rattle.abi_record.specs.RecordBytes.{recordBytes, kindOf, cartOf, isRecord}
+use Rattle.abi_record.specs.RecordBytes.{recordBytes, kindOf, cartOf, isRecord, stateOf, bytesOf}
 use Rattle.abi_record.specs.Abi.{called, calledAt}
-use Rattle.in_place.specs.InPlace.{stateOf, bytesOf, heldAt, readAt, writeAt}
+use Rattle.in_place.specs.InPlace.{heldAt, readAt, writeAt}
 
 module _ (r m : List ℕ) (h : isRecord r ≡ true) (g : (recordAllowed (cartOf r) ≡ true) × (recordBytes (cartOf r) ≡ r)) where
   -- question 3 answered no

@@ -12,6 +12,8 @@ use Rattle.kind.specs.declared.SaveType.the-variants.{None, Sram, Flash64, Flas
 use Rattle.kind.specs.Kind.{kindNumber}
 use Rattle.cart.specs.declared.Cartridge.{Cartridge}
 use Rattle.cart.specs.ChipState.{bit, chipBytes, chipOf, stateQuestions}
+use Rattle.cart.specs.Record.{State}
+use Rattle.cart.specs.Replies.{state}
 
 unfoldable pub recordBytes : Cartridge → List ℕ
 recordBytes c = lowFirst 4 (c .len) ++ (kindNumber (c .kind) ∷ bit (c .dirty) ∷ chipBytes (c .chip))
@@ -30,3 +32,10 @@ cartOf r = record { len = lowValue (take 4 r); kind = kindOf (getD r 4 0); dirty
 -- are some kind's number, and 0 or 1
 unfoldable pub isRecord : List ℕ → Bool
 isRecord r = leb (getD r 4 0) 5 && leb (getD r 5 0) 1 && imageLength (lowValue (take 4 r)) && eqb (asked (stateQuestions (drop 6 r))) 0
+
+-- the state that bytes and memory are, and the bytes and the memory of a state
+abbrev pub stateOf : List ℕ → List ℕ → State
+stateOf r m = state (cartOf r) m
+
+abbrev pub bytesOf : State → List ℕ × List ℕ
+bytesOf s = (recordBytes (s .cart), s .memory)

@@ -23,9 +23,8 @@ use Rattle.cart.specs.Calls.{eepromBeginDma, eepromWrite, eepromRead, eepromOf,
 use Rattle.cart.specs.Replies.{state, chipRecord, cartWith}
 use Rattle.cart.proofs.Replies.{step-no, step-yes}
 use Rattle.cart.proofs.Sound.{eeprom-size}
-use Rattle.abi_record.specs.RecordBytes.{recordBytes, kindOf, cartOf, isRecord}
+use Rattle.abi_record.specs.RecordBytes.{recordBytes, kindOf, cartOf, isRecord, stateOf, bytesOf}
 use Rattle.abi_record.specs.Abi.{called, calledAt}
-use Rattle.in_place.specs.InPlace.{stateOf, bytesOf}
 
 -- width and large among them
 told-14 : (c : Cartridge) → set (set (recordBytes c) 9 14) 10 1 ≡ recordBytes (cartWith c (c .dirty) (chipRecord (c .chip .flash) (told 14 true (c .chip .eeprom))))

@@ -16,9 +16,8 @@ use Rattle.cart.specs.ChipState.{bit, chipBytes, chipOf}
 use Rattle.cart.specs.Calls.{flashOf, withFlash}
 use Rattle.cart.specs.Replies.{state, chipRecord, cartWith}
 use Rattle.byte_calls.proofs.Writes.{wrote}
-use Rattle.abi_record.specs.RecordBytes.{recordBytes, cartOf, isRecord}
+use Rattle.abi_record.specs.RecordBytes.{recordBytes, cartOf, isRecord, stateOf, bytesOf}
 use Rattle.abi_record.proofs.RecordBytes.{good-record}
-use Rattle.in_place.specs.InPlace.{stateOf, bytesOf}
 
 pub back : (r : List ℕ) → ((i : ℕ) → getD r i 0 < 256) → isRecord r ≡ true → recordBytes (cartOf r) ≡ r
 back r b h = good-record r b h .1

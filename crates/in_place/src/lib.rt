@@ -1,6 +1,4 @@
-// The byte calls and serial bits on the 24 bytes of a record as they are lent: only what a call reads is taken out, and only what it changes is written.
-
-mod serial;
+// The byte calls on the 24 bytes of a record as they are lent: only what a call reads is taken out, and only what it changes is written.
 
 use cart::bit;
 use flash::Flash;
@@ -9,9 +7,6 @@ use flash::flash_write;
 use memory::apply;
 use memory::dirty_behind;
 use memory::put_byte;
-pub use serial::draw_in_place;
-pub use serial::shift_in_place;
-pub use serial::step_in_place;
 ghost use mathlib.Core.Path.{_≡_};
 ghost use mathlib.Core.Bool.{true};
 ghost use mathlib.Core.List.{List};
@@ -22,8 +17,8 @@ ghost use Rattle.memory.specs.Memory.{stored};
 ghost use Rattle.flash.specs.Flash.{flashRead, writeByte};
 ghost use Rattle.cart.specs.ChipState.{bit as bit·spec};
 ghost use Rattle.cart.specs.Calls.{withFlash, flashOf};
-ghost use Rattle.abi_record.specs.RecordBytes.{kindOf, cartOf, isRecord};
-ghost use Rattle.in_place.specs.InPlace.{stateOf, bytesOf, heldAt, readAt, writeAt};
+ghost use Rattle.abi_record.specs.RecordBytes.{kindOf, cartOf, isRecord, stateOf, bytesOf};
+ghost use Rattle.in_place.specs.InPlace.{heldAt, readAt, writeAt};
 
 fn flash_in(cart: &[u8]) -> Flash
     requires { ⌜ length (now cart) ≡ 24 ⌝ }

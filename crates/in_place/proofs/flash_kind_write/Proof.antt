@@ -1,11 +1,11 @@
 -- `in_place::flash_kind_write` meets its contract. Assumes nothing.
+use Rattle.abi_record.specs.RecordBytes.{stateOf, bytesOf}
 use borrow.Author.Needs.{needs}
 use Prim.Native.Nat.{ℕ}
 use mathlib.Core.List.{List}
 use mathlib.Core.Path.{ap, _∙_}
 use Rattle.flash.specs.Flash.{writeByte}
 use Rattle.cart.specs.Calls.{withFlash, flashOf}
-use Rattle.in_place.specs.InPlace.{stateOf, bytesOf}
 use Rattle.in_place.proofs.ByKind.{held-yes, held-no}
 use Rattle.in_place.proofs.flash_kind_write.Statement.{statement}
 use Rattle.in_place.proofs.flash_kind_write.Tie as tie

@@ -1,10 +1,11 @@
 -- `in_place::read_in_place` meets its contract. Assumes nothing.
+use Rattle.abi_record.specs.RecordBytes.{stateOf}
 use mathlib.Core.Path.{refl, sym, ap, _∙_}
 use native.Mathlib.Omega.{arith}
 use lib.ListN.{getD}
 use Rattle.kind.specs.declared.SaveType.{SaveType}
 use Rattle.cart.specs.Calls.{readSave}
-use Rattle.in_place.specs.InPlace.{stateOf, readAt}
+use Rattle.in_place.specs.InPlace.{readAt}
 use Rattle.in_place.proofs.ByKind.{kind-0, kind-1, kind-2, kind-3, kind-above}
 use borrow.Author.Needs.{needs}
 use Rattle.in_place.proofs.read_in_place.Statement.{statement}

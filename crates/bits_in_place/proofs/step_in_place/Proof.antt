@@ -1,4 +1,4 @@
--- `in_place::serial::step_in_place` meets its contract. Assumes nothing.
+-- `bits_in_place::step_in_place` meets its contract. Assumes nothing.
 use mathlib.Core.Path.{_≡_, sym, ap, subst, _∙_}
 use Prim.Native.Nat.{_%_}
 use native.Mathlib.Omega.{arith}
@@ -12,10 +12,10 @@ use Rattle.cart.specs.ChipState.{chipOf}
 use Rattle.cart.proofs.Fields.{allowed-bounds}
 use Rattle.abi_record.specs.RecordBytes.{cartOf}
 use Rattle.abi_record.proofs.RecordBytes.{good-record}
-use Rattle.in_place.proofs.SerialBits.{step-left}
+use Rattle.bits_in_place.proofs.SerialBits.{step-left}
 use borrow.Author.Needs.{needs}
-use Rattle.in_place.proofs.serial.step_in_place.Statement.{statement}
-use Rattle.in_place.proofs.serial.step_in_place.Tie as tie
+use Rattle.bits_in_place.proofs.step_in_place.Statement.{statement}
+use Rattle.bits_in_place.proofs.step_in_place.Tie as tie
 
 write-bit-requires : tie.Need-write-bit-requires
 unfolding cartOf

@@ -21,9 +21,9 @@ use Rattle.cart.specs.ChipState.{bit, phaseNumber, phaseOf, chipBytes, chipOf}
 use Rattle.cart.specs.Calls.{eepromOf, withEeprom, withChip}
 use Rattle.cart.specs.Replies.{chipRecord, cartWith}
 use Rattle.serial_calls.proofs.Bits.{took}
-use Rattle.abi_record.specs.RecordBytes.{recordBytes, cartOf}
+use Rattle.abi_record.specs.RecordBytes.{recordBytes, cartOf, stateOf, bytesOf}
 use Rattle.usual_record.specs.QuickTests.{WantsMore}
-use Rattle.in_place.specs.InPlace.{stateOf, bytesOf, withAcc, withSerial}
+use Rattle.bits_in_place.specs.Bits.{withAcc, withSerial}
 
 -- one bit more, in each phase that takes several
 more-by : (p : EepromPhase) (e : Eeprom) (b : ℕ) → e .count + 1 < countLimit p (wOf e)

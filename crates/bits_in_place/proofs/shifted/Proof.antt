@@ -1,6 +1,6 @@
 use Rattle.eeprom.proofs.Bits.{put-in}
-use Rattle.in_place.proofs.serial.shifted.Statement.{statement}
-use Rattle.in_place.proofs.serial.shifted.Tie as tie
+use Rattle.bits_in_place.proofs.shifted.Statement.{statement}
+use Rattle.bits_in_place.proofs.shifted.Tie as tie
 
 returns : tie.Need-returns
 returns c = put-in (c .args .acc) (c .args .b) (c .pre)

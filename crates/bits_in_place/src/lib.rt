@@ -1,4 +1,4 @@
-// Serial bits that change little: one that more follow, and one drawn within a block.
+// Serial bits on the 24 bytes of a record as they are lent: any bit in, one that more follow, and one drawn within a block.
 use cart::bit;
 use cart::chip_of;
 use cart::phase_number;
@@ -14,9 +14,9 @@ ghost use Prim.Native.Nat.{ℕ, _+_, _*_, _%_, _^_, _<_};
 ghost use lib.ListN.{length, getD};
 ghost use Rattle.eeprom.specs.Eeprom.{bitIn, readBit, afterRead};
 ghost use Rattle.cart.specs.Calls.{eepromOf, withEeprom, withChip};
-ghost use Rattle.abi_record.specs.RecordBytes.{cartOf, isRecord};
+ghost use Rattle.abi_record.specs.RecordBytes.{cartOf, isRecord, stateOf, bytesOf};
 ghost use Rattle.usual_record.specs.QuickTests.{WantsMore};
-ghost use Rattle.in_place.specs.InPlace.{stateOf, bytesOf, withAcc, withSerial};
+ghost use Rattle.bits_in_place.specs.Bits.{withAcc, withSerial};
 
 fn shifted(acc: u64, b: u64) -> u64
     requires { ⌜ b < 2 ⌝ }

@@ -8,10 +8,10 @@ use Rattle.cart.specs.ChipState.{chipOf}
 use Rattle.cart.proofs.Fields.{allowed-bounds}
 use Rattle.abi_record.specs.RecordBytes.{cartOf}
 use Rattle.abi_record.proofs.RecordBytes.{good-record}
-use Rattle.in_place.proofs.SerialBits.{shift-left}
+use Rattle.bits_in_place.proofs.SerialBits.{shift-left}
 use borrow.Author.Needs.{needs}
-use Rattle.in_place.proofs.serial.shift_in_place.Statement.{statement}
-use Rattle.in_place.proofs.serial.shift_in_place.Tie as tie
+use Rattle.bits_in_place.proofs.shift_in_place.Statement.{statement}
+use Rattle.bits_in_place.proofs.shift_in_place.Tie as tie
 
 add-cart : tie.Need-add-cart
 unfolding cartOf

@@ -1,8 +1,8 @@
 use native.Mathlib.Omega.{arith}
 use lib.ListN.{length-set}
 use borrow.Author.Needs.{needs}
-use Rattle.in_place.proofs.serial.put_acc.Statement.{statement}
-use Rattle.in_place.proofs.serial.put_acc.Tie as tie
+use Rattle.bits_in_place.proofs.put_acc.Statement.{statement}
+use Rattle.bits_in_place.proofs.put_acc.Tie as tie
 
 slice-write-cart-5 : tie.Need-slice-write-cart-5
 slice-write-cart-5 c = simp length-set (omega (arith, c .pre))

@@ -9,11 +9,11 @@ use Rattle.abi_record.specs.RecordBytes.{cartOf}
 use Rattle.abi_record.proofs.RecordBytes.{good-record}
 use mathlib.Core.Bool.{true}
 use Rattle.eeprom.specs.Eeprom.{readBit}
-use Rattle.in_place.proofs.SerialBits.{draw-left}
+use Rattle.bits_in_place.proofs.SerialBits.{draw-left}
 use mathlib.Core.Path.{refl}
 use borrow.Author.Needs.{needs}
-use Rattle.in_place.proofs.serial.draw_in_place.Statement.{statement}
-use Rattle.in_place.proofs.serial.draw_in_place.Tie as tie
+use Rattle.bits_in_place.proofs.draw_in_place.Statement.{statement}
+use Rattle.bits_in_place.proofs.draw_in_place.Tie as tie
 
 read-bit-requires : tie.Need-read-bit-requires
 unfolding cartOf

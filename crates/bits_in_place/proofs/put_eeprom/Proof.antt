@@ -1,10 +1,10 @@
--- `in_place::serial::put_eeprom` meets its contract. Assumes nothing.
+-- `bits_in_place::put_eeprom` meets its contract. Assumes nothing.
 use mathlib.Core.Path.{_∙_}
 use native.Mathlib.Omega.{arith}
 use lib.ListN.{length-set}
 use borrow.Author.Needs.{needs}
-use Rattle.in_place.proofs.serial.put_eeprom.Statement.{statement}
-use Rattle.in_place.proofs.serial.put_eeprom.Tie as tie
+use Rattle.bits_in_place.proofs.put_eeprom.Statement.{statement}
+use Rattle.bits_in_place.proofs.put_eeprom.Tie as tie
 
 slice-write-cart-5 : tie.Need-slice-write-cart-5
 slice-write-cart-5 c = simp length-set (omega (arith, c .before .before .before .before .pre))
