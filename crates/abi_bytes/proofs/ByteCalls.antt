@@ -8,12 +8,13 @@ use native.Mathlib.Omega.{arith}
 use lib.Dec.{eqb}
 use lib.ListN.{length, getD}
 use borrow.Author.Tests.{eq-eqb, ne-eqb, eqb-true, eqb-false}
+use Rattle.abi_places.specs.Places.{kindOf}
 use Rattle.lists.proofs.Bools.{split}
 use Rattle.kind.specs.Kind.{memorySize}
 use Rattle.cart.specs.Record.{recordAllowed}
 use Rattle.cart.specs.Calls.{saveRead, saveWrite, readSave, writeSave, questions, accepted, step}
 use Rattle.cart.proofs.Replies.{step-no, step-yes}
-use Rattle.abi_record.specs.RecordBytes.{recordBytes, kindOf, cartOf, isRecord, stateOf, bytesOf}
+use Rattle.abi_record.specs.RecordBytes.{recordBytes, cartOf, isRecord, stateOf, bytesOf}
 use Rattle.abi_record.specs.Abi.{called, calledAt}
 use Rattle.in_place.specs.InPlace.{heldAt, readAt, writeAt}
 

@@ -3,13 +3,13 @@ use mathlib.Core.Path.{_≡_, sym, ap, _∙_}
 use mathlib.Core.Bool.{true, false}
 use mathlib.Core.List.{List}
 use Prim.Native.Nat.{ℕ}
+use Rattle.abi_places.specs.Places.{told}
 use Rattle.cart.specs.declared.Cartridge.{Cartridge}
 use Rattle.cart.specs.declared.Reply.{Reply}
 use Rattle.cart.specs.Record.{State, recordAllowed}
 use Rattle.cart.specs.Calls.{saveData, step}
 use Rattle.cart.specs.Replies.{state, exportReplied}
 use Rattle.abi_record.specs.RecordBytes.{recordBytes, cartOf, isRecord}
-use Rattle.abi_record.specs.Places.{told}
 use Rattle.abi_record.specs.Abi.{exportAt}
 use Rattle.abi_files.proofs.Kept.{export-keeps}
 

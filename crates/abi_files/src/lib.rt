@@ -1,7 +1,7 @@
 // `load_save`, `save_data` and import on the 24 bytes of a record.
+use abi_places::tell;
 use abi_record::cart_of;
 use abi_record::is_record;
-use abi_record::tell;
 use abi_record::write_back;
 ghost use mathlib.Core.Path.{_≡_};
 ghost use mathlib.Core.List.{[]};

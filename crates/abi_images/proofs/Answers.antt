@@ -6,6 +6,7 @@ use Prim.Native.Nat.{ℕ, _≤_}
 use native.Mathlib.Omega.{arith}
 use lib.Dec.{leb}
 use lib.ListN.{length}
+use Rattle.abi_places.specs.Places.{answeredAt, keptLength, kindAnswer, titleAt, told}
 use Rattle.lists.proofs.Bools.{either}
 use Rattle.image.specs.declared.Answer.{Answer}
 use Rattle.image.specs.Image.{imageLength}
@@ -15,8 +16,6 @@ use Rattle.kind.specs.Kind.{kindNumber, detectSaveType}
 use Rattle.kind.proofs.Sizes.{memory-small}
 use Rattle.files.specs.declared.SaveFit.{SaveFit}
 use Rattle.files.specs.SaveFit.{chipSize, eepromFit, saveFit, saveSize, saveFitOf, saveSizeOf}
-use Rattle.abi_record.specs.Places.{told}
-use Rattle.abi_record.specs.Abi.{answeredAt, titleAt, kindAnswer, keptLength}
 
 pub titled : (a : Answer) (place : ℕ) {d : List ℕ} {t : Answer × List ℕ} {x p : ℕ} → (x, p) ≡ told (a .refusal) (a .value) place → (a, d) ≡ t → (x, d, p) ≡ titleAt t place
 titled a place {d} u e = ap (λ (l : ℕ × ℕ). (l .0, d, l .1)) u ∙ ap (λ (t : Answer × List ℕ). titleAt t place) e

@@ -2,7 +2,7 @@
 
 mod sizes;
 
-use abi_record::tell;
+use abi_places::tell;
 use image::image_length;
 use kind::kind_number;
 pub use sizes::memory_size;
@@ -10,10 +10,10 @@ pub use sizes::save_fit;
 pub use sizes::save_size;
 use title::header_title;
 ghost use mathlib.Core.Path.{_≡_};
+ghost use Rattle.abi_places.specs.Places.{answeredAt, kindAnswer, titleAt};
 ghost use Rattle.image.specs.Image.{read as read·spec, headerChecksum};
 ghost use Rattle.title.specs.Title.{headerTitle};
 ghost use Rattle.crc.specs.Crc.{romCrc};
-ghost use Rattle.abi_record.specs.Abi.{answeredAt, titleAt, kindAnswer};
 
 pub fn read(image: &[u8], address: u32, value: &mut u32) -> u32
     ensures { λ x. ⌜ (x, now (value .exit)) ≡ answeredAt (read·spec 1 (now (image .entry)) address) (now (value .entry)) ⌝ }

@@ -1,10 +1,10 @@
 // The sizes of files and memories.
-use abi_record::kind_of;
+ghost use Rattle.abi_places.specs.Places.{answeredAt, fitAnswer, keptLength, memorySizeAnswer, sizeAnswer};
+use abi_places::kind_of;
 use files::SaveFit;
 use files::save_fit_of;
 use files::save_size_of;
 ghost use mathlib.Core.Path.{_≡_};
-ghost use Rattle.abi_record.specs.Abi.{answeredAt, keptLength, fitAnswer, sizeAnswer, memorySizeAnswer};
 
 fn kept_length(fit: SaveFit) -> usize
     ensures { λ n. ⌜ n ≡ keptLength fit ⌝ }

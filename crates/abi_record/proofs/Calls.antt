@@ -3,14 +3,13 @@ use mathlib.Core.Path.{_≡_, ap, _∙_}
 use mathlib.Core.Bool.{true, false}
 use mathlib.Core.List.{List}
 use Prim.Native.Nat.{ℕ}
-use Rattle.image.specs.declared.Answer.{Answer}
+use Rattle.abi_places.specs.Places.{told}
 use Rattle.cart.specs.declared.Cartridge.{Cartridge}
 use Rattle.cart.specs.declared.Reply.{Reply}
 use Rattle.cart.specs.Record.{State, Outcome}
 use Rattle.cart.specs.Replies.{state, replied}
 use Rattle.abi_record.specs.RecordBytes.{recordBytes, cartOf, isRecord}
-use Rattle.abi_record.specs.Places.{leftBy, told}
-use Rattle.abi_record.specs.Abi.{called, calledAt, answeredAt}
+use Rattle.abi_record.specs.Abi.{leftBy, called, calledAt}
 
 module _ (call : State → Outcome) (r m : List ℕ) where
   pub called-no : isRecord r ≡ false → (2, r, m) ≡ called call r m
@@ -40,7 +39,3 @@ module _ (call : State → Outcome) (r m : List ℕ) where
         (ap (λ (l : ℕ × ℕ). (l .0, b, m', l .1)) t
         ∙ ap (λ (l : List ℕ). (reply .refusal, l, m', told (reply .refusal) (reply .value) place .1)) g
         ∙ ap (λ (q : Reply × List ℕ). (q .0 .refusal, recordBytes (q .0 .cart), q .1, told (q .0 .refusal) (q .0 .value) place .1)) f)
-
--- what has one number for an answer
-pub answered : (a : Answer) (place : ℕ) {b : Answer} {x p : ℕ} → (x, p) ≡ told (a .refusal) (a .value) place → a ≡ b → (x, p) ≡ answeredAt b place
-answered a place t e = t ∙ ap (λ (b : Answer). answeredAt b place) e

@@ -10,6 +10,7 @@ use lib.ListN.{length, getD, take, drop, replicate, length-drop, length-take, ta
 use lib.Pow.{areBytes}
 use lib.Seq.{drop-cons, take-all}
 use borrow.Author.Tests.{leb-true, eqb-true, eqb-false, lt-ltb, lt-leb, le-leb}
+use Rattle.abi_places.specs.Places.{kindOf}
 use Rattle.lists.specs.Lists.{lowFirst, lowValue}
 use Rattle.lists.specs.Questions.{asked}
 use Rattle.lists.proofs.Bools.{split, and-left, and-right}
@@ -17,15 +18,16 @@ use Rattle.lists.proofs.Digits.{low-back, low-forth, low-at, bytes-drop, bytes-
 use Rattle.lists.proofs.Parts.{rest, spelled, spells}
 use Rattle.image.specs.Image.{imageLength}
 use Rattle.kind.specs.declared.SaveType.{SaveType}
-use Rattle.kind.specs.declared.SaveType.the-variants.{None, Sram, Flash64, Flash128, Eeprom512, Eeprom8k}
-use Rattle.kind.specs.Kind.{byKind, kindNumber}
+use Rattle.kind.specs.declared.SaveType.the-variants.{None}
+use Rattle.kind.specs.Kind.{kindNumber}
+use Rattle.abi_places.proofs.Numbers.{kind-le, kind-back, kind-forth}
 use Rattle.cart.specs.declared.ChipRecord.{ChipRecord}
 use Rattle.cart.specs.declared.Cartridge.{Cartridge}
 use Rattle.cart.specs.ChipState.{bit, chipBytes, chipOf, stateQuestions}
 use Rattle.cart.specs.Record.{recordAllowed, freshCart}
 use Rattle.cart.proofs.ChipState.{bit-le, bit-back, chip-back, bytes-back}
 use Rattle.cart.proofs.Fields.{state-18}
-use Rattle.abi_record.specs.RecordBytes.{recordBytes, kindOf, cartOf, isRecord}
+use Rattle.abi_record.specs.RecordBytes.{recordBytes, cartOf, isRecord}
 use Rattle.abi_record.specs.Claims.{RecordAndBytes}
 
 -- four bytes as one number, and a number's four bytes
@@ -36,34 +38,6 @@ low-four r = sym (low-at r 0 3 ∙ rw (low-at r 1 2, low-at r 2 1, low-at r 3 0)
 pub four-bytes : (x : ℕ) → lowFirst 4 x ≡ x % 256 ∷ x / 256 % 256 ∷ x / 65536 % 256 ∷ x / 16777216 % 256 ∷ []
 unfolding lowFirst
 four-bytes x = rw (div-div-eq-div-mul x 256 256, div-div-eq-div-mul x 65536 256)
-
-kind-le : (k : SaveType) → leb (kindNumber k) 5 ≡ true
-kind-le None = refl
-kind-le Sram = refl
-kind-le Flash64 = refl
-kind-le Flash128 = refl
-kind-le Eeprom512 = refl
-kind-le Eeprom8k = refl
-
-kind-back : (k : SaveType) → kindOf (kindNumber k) ≡ k
-unfolding kindOf
-kind-back None = refl
-kind-back Sram = refl
-kind-back Flash64 = refl
-kind-back Flash128 = refl
-kind-back Eeprom512 = refl
-kind-back Eeprom8k = refl
-
-kind-forth : (n : ℕ) → leb n 5 ≡ true → kindNumber (kindOf n) ≡ n
-unfolding kindOf
-kind-forth n h =
-    let P : SaveType → Type 0 = λ k. byKind k 0 1 2 3 4 5 ≡ n in
-    split P (eqb n 0) (λ e. sym (eqb-true n 0 e))
-    (λ e0. split P (eqb n 1) (λ e. sym (eqb-true n 1 e))
-    (λ e1. split P (eqb n 2) (λ e. sym (eqb-true n 2 e))
-    (λ e2. split P (eqb n 3) (λ e. sym (eqb-true n 3 e))
-    (λ e3. split P (eqb n 4) (λ e. sym (eqb-true n 4 e))
-    (λ e4. omega (arith, leb-true n 5 h, eqb-false n 0 e0, eqb-false n 1 e1, eqb-false n 2 e2, eqb-false n 3 e3, eqb-false n 4 e4))))))
 
 bit-forth : (n : ℕ) → leb n 1 ≡ true → bit (eqb n 1) ≡ n
 bit-forth n h =
@@ -134,10 +108,6 @@ nothing = refl
 
 pub record-and-bytes : RecordAndBytes
 record-and-bytes = record { written = written; read = read; nothing = nothing }
-
--- a kind's number is a byte
-pub kind-lt : (k : SaveType) {n : ℕ} → n ≡ kindNumber k → n < 256
-kind-lt k e = rw e (omega (arith, leb-true (kindNumber k) 5 (kind-le k)))
 
 -- the bytes, written one by one
 eighteen : (c : ChipRecord) → length (chipBytes c) ≡ 18

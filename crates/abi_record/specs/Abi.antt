@@ -1,27 +1,25 @@
 -- What the exported calls answer and leave: the machine's own call, of the record that 24 bytes are, and the values at lent places.
 -- "A no returns the number, the record as given, all buffers unchanged": a lent place keeps its value too.
 use mathlib.Core.Bool.{cond}
-use mathlib.Core.List.{List, [], _∷_}
+use mathlib.Core.List.{List, []}
 use Prim.Native.Nat.{ℕ}
-use lib.Dec.{leb}
-use Rattle.lists.specs.Questions.{_else_}
 use Rattle.image.specs.declared.Answer.{Answer}
-use Rattle.image.specs.Image.{imageQuestion, accepted, answered}
-use Rattle.kind.specs.Kind.{kindNumber, memorySize, detectSaveType}
-use Rattle.files.specs.declared.SaveFit.{SaveFit}
-use Rattle.files.specs.declared.SaveFit.the-variants.{Keeps, Refused}
-use Rattle.files.specs.SaveFit.{saveFitOf, saveSizeOf}
+use Rattle.abi_places.specs.Places.{placed, answeredAt}
 use Rattle.cart.specs.declared.Cartridge.{Cartridge}
+use Rattle.cart.specs.declared.Reply.{Reply}
 use Rattle.cart.specs.ChipState.{bit}
 use Rattle.cart.specs.Record.{State, Outcome}
 use Rattle.cart.specs.Calls.{saveData, chipState, takeSaveDirty, step}
 use Rattle.cart.specs.Replies.{state, first}
-use Rattle.abi_record.specs.RecordBytes.{recordBytes, kindOf, cartOf, isRecord}
-use Rattle.abi_record.specs.Places.{placed, told}
+use Rattle.abi_record.specs.RecordBytes.{recordBytes, cartOf, isRecord}
 
 -- 24 bytes that are no record: `refused` is 2 with all that the call was lent
 abbrev pub ofRecord : {A : Type 0} → List ℕ → A → (Cartridge → A) → A
 ofRecord r refused call = cond (isRecord r) (call (cartOf r)) refused
+
+-- what a call leaves where a record was lent
+abbrev pub leftBy : Reply → ℕ × List ℕ
+leftBy reply = (reply .refusal, recordBytes (reply .cart))
 
 -- answer, record and memory
 abbrev pub left : Outcome → ℕ × List ℕ × List ℕ
@@ -62,32 +60,6 @@ stateAt r m place =
     let o = step chipState [] (state c m) in
     (o .refusal, recordBytes (o .next .cart), o .next .memory, placed (o .refusal) (o .given) place))
 
--- what has one number for an answer, of an image and of a record
-abbrev pub answeredAt : Answer → ℕ → ℕ × ℕ
-answeredAt a place = told (a .refusal) (a .value) place
-
+-- what has one number for an answer
 unfoldable pub askedAt : (Cartridge → Answer) → List ℕ → ℕ → ℕ × ℕ
 askedAt ask r place = ofRecord r (2, place) (λ c. answeredAt (ask c) place)
-
--- the title, with its destination and the place for its length
-abbrev pub titleAt : Answer × List ℕ → ℕ → ℕ × List ℕ × ℕ
-titleAt t place = (t .0 .refusal, t .1, placed (t .0 .refusal) (t .0 .value) place)
-
--- the number of an image's kind
-unfoldable pub kindAnswer : List ℕ → Answer
-kindAnswer image = answered (imageQuestion image ∷ []) (kindNumber (detectSaveType image))
-
--- what `save_fit` keeps: no kind keeps 0 bytes of a file, so 0 stands for "none"
-abbrev pub keptLength : SaveFit → ℕ
-keptLength (Keeps n) = n
-keptLength Refused = 0
-
-unfoldable pub fitAnswer : List ℕ → ℕ → Answer
-fitAnswer image file = accepted (keptLength (saveFitOf image file))
-
-unfoldable pub sizeAnswer : List ℕ → Answer
-sizeAnswer image = accepted (saveSizeOf image)
-
--- the memory size by a kind's number; a number that is none is 2
-unfoldable pub memorySizeAnswer : ℕ → Answer
-memorySizeAnswer kind = answered (leb kind 5 else 2 ∷ []) (memorySize (kindOf kind))

@@ -1,4 +1,3 @@
 pub mod RecordBytes
-pub mod Places
 pub mod Abi
 pub mod Claims

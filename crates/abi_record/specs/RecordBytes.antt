@@ -1,5 +1,5 @@
 -- The cartridge record as 24 bytes: image length, low byte first; kind; changed flag; the 18 bytes of the chip record.
-use mathlib.Core.Bool.{Bool, cond, _&&_}
+use mathlib.Core.Bool.{Bool, _&&_}
 use mathlib.Core.List.{List, _∷_, _++_}
 use Prim.Native.Nat.{ℕ}
 use lib.Dec.{leb, eqb}
@@ -7,9 +7,8 @@ use lib.ListN.{getD, take, drop}
 use Rattle.lists.specs.Lists.{lowFirst, lowValue}
 use Rattle.lists.specs.Questions.{asked}
 use Rattle.image.specs.Image.{imageLength}
-use Rattle.kind.specs.declared.SaveType.{SaveType}
-use Rattle.kind.specs.declared.SaveType.the-variants.{None, Sram, Flash64, Flash128, Eeprom512, Eeprom8k}
 use Rattle.kind.specs.Kind.{kindNumber}
+use Rattle.abi_places.specs.Places.{kindOf}
 use Rattle.cart.specs.declared.Cartridge.{Cartridge}
 use Rattle.cart.specs.ChipState.{bit, chipBytes, chipOf, stateQuestions}
 use Rattle.cart.specs.Record.{State}
@@ -17,13 +16,6 @@ use Rattle.cart.specs.Replies.{state}
 
 unfoldable pub recordBytes : Cartridge → List ℕ
 recordBytes c = lowFirst 4 (c .len) ++ (kindNumber (c .kind) ∷ bit (c .dirty) ∷ chipBytes (c .chip))
-
--- no number above 5 is a kind's
-unfoldable pub kindOf : ℕ → SaveType
-kindOf n =
-    cond (eqb n 0) None
-    (cond (eqb n 1) Sram
-    (cond (eqb n 2) Flash64 (cond (eqb n 3) Flash128 (cond (eqb n 4) Eeprom512 Eeprom8k))))
 
 unfoldable pub cartOf : List ℕ → Cartridge
 cartOf r = record { len = lowValue (take 4 r); kind = kindOf (getD r 4 0); dirty = eqb (getD r 5 0) 1; chip = chipOf (drop 6 r) }

@@ -1,5 +1,6 @@
-// What a C program lends: the cartridge record as 24 bytes, and places for values.
+// What a C program lends: the cartridge record as 24 bytes.
 
+use abi_places::kind_of;
 use cart::Cartridge;
 use cart::Reply;
 use cart::bit;
@@ -7,28 +8,14 @@ use cart::chip_bytes;
 use cart::chip_of;
 use cart::state_questions;
 use image::image_length;
-use kind::SaveType;
 use kind::kind_number;
 use lists::low32;
 ghost use mathlib.Core.Path.{_≡_};
 ghost use mathlib.Core.Bool.{true};
 ghost use lib.ListN.{length};
 ghost use Rattle.cart.specs.Record.{recordAllowed};
-ghost use Rattle.abi_record.specs.RecordBytes.{recordBytes, kindOf, cartOf, isRecord};
-ghost use Rattle.abi_record.specs.Places.{leftBy, told};
-
-pub fn kind_of(n: u8) -> SaveType
-    ensures { λ r. ⌜ r ≡ kindOf n ⌝ }
-{
-    match n {
-        0 => SaveType::None,
-        1 => SaveType::Sram,
-        2 => SaveType::Flash64,
-        3 => SaveType::Flash128,
-        4 => SaveType::Eeprom512,
-        _ => SaveType::Eeprom8k,
-    }
-}
+ghost use Rattle.abi_record.specs.RecordBytes.{recordBytes, cartOf, isRecord};
+ghost use Rattle.abi_record.specs.Abi.{leftBy};
 
 // Question 2, of bytes. A record's bytes are those of an allowed one, and are written back unchanged.
 fn stands(bytes: &[u8]) -> bool
@@ -116,15 +103,4 @@ pub fn write_back(reply: Reply, cart: &mut [u8; 24]) -> u32
     let next = reply.cart;
     *cart = record_bytes(next);
     reply.refusal as u32
-}
-
-// A value is put where a place was lent for it; a refused call leaves the place.
-pub fn tell(refusal: u8, value: u32, place: &mut u32) -> u32
-    ensures { λ x. ⌜ (x, now (place .exit)) ≡ told refusal value (now (place .entry)) ⌝ }
-{
-    if refusal != 0 {
-        return refusal as u32;
-    }
-    *place = value;
-    0
 }

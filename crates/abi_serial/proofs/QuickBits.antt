@@ -9,6 +9,7 @@ use lib.Dec.{eqb}
 use lib.ListN.{length, getD, set}
 use lib.Seq.{getD-drop}
 use borrow.Author.Tests.{eq-eqb, ne-eqb, eqb-false, lt-ltb}
+use Rattle.abi_places.specs.Places.{kindOf}
 use Rattle.lists.specs.Lists.{lowFirst}
 use Rattle.lists.specs.Questions.{asked}
 use Rattle.lists.proofs.Bools.{split, cases}
@@ -23,7 +24,7 @@ use Rattle.cart.specs.Calls.{eepromBeginDma, eepromWrite, eepromRead, eepromOf,
 use Rattle.cart.specs.Replies.{state, chipRecord, cartWith}
 use Rattle.cart.proofs.Replies.{step-no, step-yes}
 use Rattle.cart.proofs.Sound.{eeprom-size}
-use Rattle.abi_record.specs.RecordBytes.{recordBytes, kindOf, cartOf, isRecord, stateOf, bytesOf}
+use Rattle.abi_record.specs.RecordBytes.{recordBytes, cartOf, isRecord, stateOf, bytesOf}
 use Rattle.abi_record.specs.Abi.{called, calledAt}
 
 -- width and large among them

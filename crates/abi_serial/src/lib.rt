@@ -1,9 +1,9 @@
 // `eeprom_begin_dma`, `eeprom_write` and `eeprom_read` on the 24 bytes of a record. In front of each stands the quick test of a usual record; a
 // function `_any` is of every record, and called last, so that the quick way pays nothing for it.
+use abi_places::kind_of;
+use abi_places::tell;
 use abi_record::cart_of;
 use abi_record::is_record;
-use abi_record::kind_of;
-use abi_record::tell;
 use abi_record::write_back;
 use bits_in_place::draw_in_place;
 use bits_in_place::shift_in_place;

@@ -11,8 +11,7 @@ use Rattle.cart.specs.Calls.{chipState, questions, accepted}
 use Rattle.cart.specs.Replies.{state, replied}
 use Rattle.cart.proofs.Replies.{step-yes}
 use Rattle.abi_record.specs.RecordBytes.{recordBytes, cartOf, isRecord}
-use Rattle.abi_record.specs.Places.{leftBy}
-use Rattle.abi_record.specs.Abi.{left, stateAt}
+use Rattle.abi_record.specs.Abi.{leftBy, left, stateAt}
 
 -- opening
 pub opened : (image m : List ℕ) (reply : Reply) {b m' : List ℕ} {x : ℕ} → (reply, m') ≡ replied (fromBytes image m) → (x, b) ≡ leftBy reply → (x, b, m') ≡ left (fromBytes image m)

@@ -5,6 +5,7 @@ use mathlib.Core.List.{List, []}
 use Prim.Native.Nat.{ℕ, _<_}
 use native.Mathlib.Omega.{arith}
 use lib.ListN.{getD, set, take}
+use Rattle.abi_places.specs.Places.{kindOf}
 use Rattle.lists.specs.Lists.{lowFirst, lowValue}
 use Rattle.lists.proofs.Bools.{either}
 use Rattle.kind.specs.Kind.{usesEeprom, windowStart}
@@ -14,7 +15,7 @@ use Rattle.cart.specs.Record.{recordAllowed}
 use Rattle.cart.specs.Calls.{takeSaveDirty, usesEepromOf, eepromWindowStart, questions, accepted}
 use Rattle.cart.specs.Replies.{state, cartWith}
 use Rattle.cart.proofs.Replies.{step-yes}
-use Rattle.abi_record.specs.RecordBytes.{recordBytes, kindOf, cartOf, isRecord}
+use Rattle.abi_record.specs.RecordBytes.{recordBytes, cartOf, isRecord}
 use Rattle.abi_record.specs.Abi.{flagAt, askedAt}
 
 -- the flag among a record's bytes

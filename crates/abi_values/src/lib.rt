@@ -1,10 +1,10 @@
 // What a record tells in one number: its changed flag, whether its kind has an EEPROM, and where the EEPROM's window starts. None is lent memory:
 // whichever one stands beside the record stays. In front of each stands the quick test of a usual record; a function `_any` is of every record, and
 // called last, so that the quick way pays nothing for it.
+use abi_places::kind_of;
+use abi_places::tell;
 use abi_record::cart_of;
 use abi_record::is_record;
-use abi_record::kind_of;
-use abi_record::tell;
 use abi_record::write_back;
 use cart::bit;
 use kind::uses_eeprom as is_eeprom;

@@ -9,6 +9,7 @@ use lib.Dec.{eqb}
 use lib.ListN.{length, replicate}
 use lib.Pow.{areBytes}
 use borrow.Author.Tests.{ne-eqb}
+use Rattle.abi_places.specs.Places.{placed}
 use Rattle.lists.specs.Questions.{Question, asked}
 use Rattle.lists.proofs.Bools.{split}
 use Rattle.files.specs.SaveFit.{keptPart}
@@ -18,7 +19,6 @@ use Rattle.cart.specs.Calls.{Call, saveRead, saveWrite, eepromBeginDma, eepromW
 use Rattle.cart.specs.Calls.{stateWith, load, fileOf, exported, questions, accepted, step, restoreQuestions, restore, importQuestions, importSave}
 use Rattle.cart.specs.Replies.{state, first}
 use Rattle.abi_record.specs.RecordBytes.{recordBytes, cartOf, isRecord}
-use Rattle.abi_record.specs.Places.{placed}
 use Rattle.abi_record.specs.Abi.{left, called, calledAt, exportAt, flagAt, stateAt}
 use Rattle.abi_record.proofs.RecordBytes.{record-and-bytes}
 use Rattle.cart_abi.specs.Claims.{MachineCall, ofNine, ofRestore, ofImport, RefusedLeaves}

@@ -8,9 +8,10 @@ use lib.Dec.{ltb}
 use lib.ListN.{replicate}
 use lib.Pow.{areBytes}
 use Rattle.files.specs.SaveFit.{taken, saveFitOf}
+use Rattle.abi_places.specs.Places.{keptLength}
 use Rattle.cart.specs.Record.{State, Outcome, fromBytes}
 use Rattle.cart.specs.Calls.{Call, restore, importSave, step}
-use Rattle.abi_record.specs.Abi.{left, called, calledAt, exportAt, flagAt, stateAt, keptLength}
+use Rattle.abi_record.specs.Abi.{left, called, calledAt, exportAt, flagAt, stateAt}
 
 -- the machine's calls
 pub data MachineCall : (State → Outcome) → Type 0 where

@@ -7,10 +7,10 @@ use abi_images::read32;
 use abi_images::rom_crc;
 use abi_images::title;
 ghost use mathlib.Core.Path.{_≡_};
+ghost use Rattle.abi_places.specs.Places.{answeredAt, kindAnswer, titleAt};
 ghost use Rattle.image.specs.Image.{read as read·spec, headerChecksum};
 ghost use Rattle.title.specs.Title.{headerTitle};
 ghost use Rattle.crc.specs.Crc.{romCrc};
-ghost use Rattle.abi_record.specs.Abi.{answeredAt, titleAt, kindAnswer};
 
 #[no_mangle]
 pub extern "C" fn gbasave_read(image: &[u8], address: u32, value: &mut u32) -> u32

@@ -1,9 +1,9 @@
 // The sizes of files and memories.
+ghost use Rattle.abi_places.specs.Places.{answeredAt, fitAnswer, memorySizeAnswer, sizeAnswer};
 use abi_images::memory_size;
 use abi_images::save_fit;
 use abi_images::save_size;
 ghost use mathlib.Core.Path.{_≡_};
-ghost use Rattle.abi_record.specs.Abi.{answeredAt, fitAnswer, sizeAnswer, memorySizeAnswer};
 
 // 0 is kept of a file that cannot be this image's.
 #[no_mangle]

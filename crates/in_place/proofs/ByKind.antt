@@ -7,10 +7,10 @@ use native.Mathlib.Omega.{arith}
 use lib.Dec.{eqb}
 use lib.ListN.{length}
 use borrow.Author.Tests.{eq-eqb, ne-eqb}
+use Rattle.abi_places.specs.Places.{kindOf}
 use Rattle.lists.proofs.Bools.{cases}
 use Rattle.kind.specs.declared.SaveType.{SaveType}
 use Rattle.kind.specs.declared.SaveType.the-variants.{None, Sram, Flash64, Flash128, Eeprom512, Eeprom8k}
-use Rattle.abi_record.specs.RecordBytes.{kindOf}
 use Rattle.in_place.specs.InPlace.{heldAt}
 
 -- the kinds by their numbers

@@ -15,9 +15,10 @@ ghost use lib.ListN.{length, getD, set};
 ghost use Rattle.memory.specs.declared.Store.the-variants.{Byte};
 ghost use Rattle.memory.specs.Memory.{stored};
 ghost use Rattle.flash.specs.Flash.{flashRead, writeByte};
+ghost use Rattle.abi_places.specs.Places.{kindOf};
 ghost use Rattle.cart.specs.ChipState.{bit as bit·spec};
 ghost use Rattle.cart.specs.Calls.{withFlash, flashOf};
-ghost use Rattle.abi_record.specs.RecordBytes.{kindOf, cartOf, isRecord, stateOf, bytesOf};
+ghost use Rattle.abi_record.specs.RecordBytes.{cartOf, isRecord, stateOf, bytesOf};
 ghost use Rattle.in_place.specs.InPlace.{heldAt, readAt, writeAt};
 
 fn flash_in(cart: &[u8]) -> Flash

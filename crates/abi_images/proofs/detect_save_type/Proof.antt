@@ -3,7 +3,7 @@ use mathlib.Core.Path.{ap, _∙_}
 use native.Mathlib.Omega.{arith}
 use Rattle.lists.proofs.Bools.{denied, granted}
 use Rattle.kind.specs.Kind.{kindNumber}
-use Rattle.abi_record.proofs.RecordBytes.{kind-lt}
+use Rattle.abi_places.proofs.Numbers.{kind-lt}
 use Rattle.abi_images.proofs.Answers.{kind-no, kind-yes}
 use borrow.Author.Needs.{needs}
 use Rattle.abi_images.proofs.detect_save_type.Statement.{statement}

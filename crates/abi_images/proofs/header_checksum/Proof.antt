@@ -1,5 +1,5 @@
 -- `abi_images::header_checksum` meets its contract. Assumes nothing.
-use Rattle.abi_record.proofs.Calls.{answered}
+use Rattle.abi_places.proofs.Answered.{answered}
 use borrow.Author.Needs.{needs}
 use Rattle.abi_images.proofs.header_checksum.Statement.{statement}
 use Rattle.abi_images.proofs.header_checksum.Tie as tie

@@ -1,5 +1,5 @@
 -- `abi_images::read` meets its contract. Assumes nothing.
-use Rattle.abi_record.proofs.Calls.{answered}
+use Rattle.abi_places.proofs.Answered.{answered}
 use borrow.Author.Needs.{needs}
 use Rattle.abi_images.proofs.read.Statement.{statement}
 use Rattle.abi_images.proofs.read.Tie as tie

@@ -1,5 +1,5 @@
 -- `abi_images::read32` meets its contract. Assumes nothing.
-use Rattle.abi_record.proofs.Calls.{answered}
+use Rattle.abi_places.proofs.Answered.{answered}
 use borrow.Author.Needs.{needs}
 use Rattle.abi_images.proofs.read32.Statement.{statement}
 use Rattle.abi_images.proofs.read32.Tie as tie

@@ -1,5 +1,5 @@
 -- `abi_images::rom_crc` meets its contract. Assumes nothing.
-use Rattle.abi_record.proofs.Calls.{answered}
+use Rattle.abi_places.proofs.Answered.{answered}
 use borrow.Author.Needs.{needs}
 use Rattle.abi_images.proofs.rom_crc.Statement.{statement}
 use Rattle.abi_images.proofs.rom_crc.Tie as tie

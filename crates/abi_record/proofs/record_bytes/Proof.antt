@@ -1,6 +1,7 @@
 -- `abi_record::record_bytes` meets its contract. Assumes nothing.
 use native.Mathlib.Omega.{arith}
-use Rattle.abi_record.proofs.RecordBytes.{kind-lt, record-spelled}
+use Rattle.abi_places.proofs.Numbers.{kind-lt}
+use Rattle.abi_record.proofs.RecordBytes.{record-spelled}
 use borrow.Author.Needs.{needs}
 use Rattle.abi_record.proofs.record_bytes.Statement.{statement}
 use Rattle.abi_record.proofs.record_bytes.Tie as tie

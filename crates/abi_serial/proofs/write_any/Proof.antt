@@ -2,11 +2,11 @@
 use mathlib.Core.Path.{sym, ap, _∙_}
 use mathlib.Core.List.{[]}
 use lib.ListN.{getD}
+use Rattle.abi_places.specs.Places.{kindOf}
 use Rattle.lists.proofs.Bools.{denied, granted}
 use Rattle.kind.specs.Kind.{memorySize, usesEeprom}
 use Rattle.cart.specs.Calls.{eepromWrite, step}
 use Rattle.cart.proofs.Sound.{eeprom-size}
-use Rattle.abi_record.specs.RecordBytes.{kindOf}
 use Rattle.abi_record.proofs.Calls.{called-no}
 use Rattle.abi_serial.proofs.QuickBits.{no-memory, no-eeprom, bit-in}
 use borrow.Author.Needs.{needs}

@@ -1,10 +1,10 @@
 -- `abi_images::sizes::memory_size` meets its contract. Assumes nothing.
+use Rattle.abi_places.specs.Places.{memorySizeAnswer}
 use Rattle.kind.proofs.Sizes.{memory-small}
 use mathlib.Core.Path.{ap, _∙_}
 use native.Mathlib.Omega.{arith}
 use borrow.Author.Tests.{lt-leb, le-leb}
 use Rattle.kind.specs.Kind.{memorySize}
-use Rattle.abi_record.specs.Abi.{memorySizeAnswer}
 use borrow.Author.Needs.{needs}
 use Rattle.abi_images.proofs.sizes.memory_size.Statement.{statement}
 use Rattle.abi_images.proofs.sizes.memory_size.Tie as tie

@@ -1,7 +1,7 @@
 -- `abi_images::sizes::save_fit` meets its contract. Assumes nothing.
+use Rattle.abi_places.specs.Places.{fitAnswer, keptLength}
 use mathlib.Core.Path.{ap, _∙_}
 use native.Mathlib.Omega.{arith}
-use Rattle.abi_record.specs.Abi.{keptLength, fitAnswer}
 use Rattle.abi_images.proofs.Answers.{fit-of-le}
 use borrow.Author.Needs.{needs}
 use Rattle.abi_images.proofs.sizes.save_fit.Statement.{statement}

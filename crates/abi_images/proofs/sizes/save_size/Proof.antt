@@ -1,7 +1,7 @@
 -- `abi_images::sizes::save_size` meets its contract. Assumes nothing.
+use Rattle.abi_places.specs.Places.{sizeAnswer}
 use mathlib.Core.Path.{ap}
 use native.Mathlib.Omega.{arith}
-use Rattle.abi_record.specs.Abi.{sizeAnswer}
 use Rattle.abi_images.proofs.Answers.{size-of-le}
 use borrow.Author.Needs.{needs}
 use Rattle.abi_images.proofs.sizes.save_size.Statement.{statement}

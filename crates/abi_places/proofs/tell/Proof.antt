@@ -1,7 +1,7 @@
--- `abi_record::tell` meets its contract. Assumes nothing.
+-- `abi_places::tell` meets its contract. Assumes nothing.
 use borrow.Author.Tests.{ne-eqb}
-use Rattle.abi_record.proofs.tell.Statement.{statement}
-use Rattle.abi_record.proofs.tell.Tie as tie
+use Rattle.abi_places.proofs.tell.Statement.{statement}
+use Rattle.abi_places.proofs.tell.Tie as tie
 
 returns : tie.Need-returns
 returns c = rw (ne-eqb _ _ (c .if1 .taken))

@@ -1,8 +1,8 @@
--- `abi_record::kind_of` meets its contract. Assumes nothing.
+-- `abi_places::kind_of` meets its contract. Assumes nothing.
 use borrow.Author.Tests.{ne-eqb}
-use Rattle.abi_record.specs.RecordBytes.{kindOf}
-use Rattle.abi_record.proofs.kind_of.Statement.{statement}
-use Rattle.abi_record.proofs.kind_of.Tie as tie
+use Rattle.abi_places.specs.Places.{kindOf}
+use Rattle.abi_places.proofs.kind_of.Statement.{statement}
+use Rattle.abi_places.proofs.kind_of.Tie as tie
 
 returns : tie.Need-returns
 unfolding kindOf
