@@ -1,4 +1,4 @@
-// `eeprom_begin_dma`, `eeprom_write` and `eeprom_read` on the 24 bytes of a record. In front of each stands the quick test of a usual record; a
+// `eeprom_write` and `eeprom_read` on the 24 bytes of a record. In front of each stands the quick test of a usual record; a
 // function `_any` is of every record, and called last, so that the quick way pays nothing for it.
 use abi_places::kind_of;
 use abi_places::tell;
@@ -14,57 +14,9 @@ use usual_record::known;
 use usual_record::serial_usual;
 use usual_record::shift_usual;
 ghost use mathlib.Core.Path.{_≡_};
-ghost use mathlib.Core.List.{List, []};
-ghost use Prim.Native.Nat.{ℕ};
-ghost use Rattle.cart.specs.Calls.{eepromBeginDma, eepromWrite, eepromRead, step};
+ghost use mathlib.Core.List.{[]};
+ghost use Rattle.cart.specs.Calls.{eepromWrite, eepromRead, step};
 ghost use Rattle.abi_record.specs.Abi.{called, calledAt};
-
-// Lent no memory: whichever one stands beside the record stays.
-fn dma_any(cart: &mut [u8; 24], words: u32) -> u32
-    ensures { λ x. ⌜ ((m : List ℕ) → (x, now (cart .exit), m) ≡ called (step (eepromBeginDma words) []) (now (cart .entry)) m) ⌝ }
-{
-    if !is_record(cart) {
-        return 2;
-    }
-    let told = serial_calls::eeprom_begin_dma(cart_of(cart), words as usize);
-    write_back(told, cart)
-}
-
-pub fn eeprom_begin_dma(cart: &mut [u8; 24], words: u32) -> u32
-    ensures { λ x. ⌜ ((m : List ℕ) → (x, now (cart .exit), m) ≡ called (step (eepromBeginDma words) []) (now (cart .entry)) m) ⌝ }
-{
-    if !known(cart) {
-        return dma_any(cart, words);
-    }
-    if !serial_usual(cart) {
-        return dma_any(cart, words);
-    }
-    if words == 17 {
-        cart[9] = 14;
-        cart[10] = 1;
-        return 0;
-    }
-    if words == 81 {
-        cart[9] = 14;
-        cart[10] = 1;
-        return 0;
-    }
-    if words == 68 {
-        return 0;
-    }
-    if 5 < cart[12] {
-        return dma_any(cart, words);
-    }
-    if words == 9 {
-        cart[9] = 6;
-        return 0;
-    }
-    if words == 73 {
-        cart[9] = 6;
-        return 0;
-    }
-    dma_any(cart, words)
-}
 
 fn write_any(cart: &mut [u8; 24], memory: &mut [u8], value: u16) -> u32
     ensures { λ x. ⌜ (x, now (cart .exit), now (memory .exit)) ≡ called (step (eepromWrite value) []) (now (cart .entry)) (now (memory .entry)) ⌝ }

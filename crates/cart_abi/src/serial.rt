@@ -1,5 +1,5 @@
 // `eeprom_begin_dma`, `eeprom_write` and `eeprom_read`: the serial calls.
-use abi_serial::eeprom_begin_dma;
+use abi_dma::eeprom_begin_dma;
 use abi_serial::eeprom_read;
 use abi_serial::eeprom_write;
 ghost use mathlib.Core.Path.{_≡_};

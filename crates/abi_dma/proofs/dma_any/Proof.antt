@@ -1,11 +1,11 @@
--- `abi_serial::dma_any` meets its contract. Assumes nothing.
+-- `abi_dma::dma_any` meets its contract. Assumes nothing.
 use mathlib.Core.List.{[]}
 use Rattle.cart.specs.Calls.{eepromBeginDma, step}
 use Rattle.lists.proofs.Bools.{denied, granted}
 use Rattle.abi_record.proofs.Calls.{called-no, called-yes}
 use borrow.Author.Needs.{needs}
-use Rattle.abi_serial.proofs.dma_any.Statement.{statement}
-use Rattle.abi_serial.proofs.dma_any.Tie as tie
+use Rattle.abi_dma.proofs.dma_any.Statement.{statement}
+use Rattle.abi_dma.proofs.dma_any.Tie as tie
 
 returns : tie.Need-returns
 returns c = let a = c .before .before .before .args in λ m. called-no (step (eepromBeginDma (a .words)) []) (a .cart .now) m (denied _ (c .before .is-record .ensures .0) (c .if1 .taken))

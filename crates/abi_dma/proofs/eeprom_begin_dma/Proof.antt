@@ -1,10 +1,10 @@
 use Rattle.lists.proofs.Bools.{granted}
 use mathlib.Core.Path.{refl}
 use Rattle.eeprom.specs.Eeprom.{tells6, tells14}
-use Rattle.abi_serial.proofs.QuickBits.{dma-14, dma-6, dma-none}
+use Rattle.abi_dma.proofs.QuickDma.{dma-14, dma-6, dma-none}
 use borrow.Author.Needs.{needs}
-use Rattle.abi_serial.proofs.eeprom_begin_dma.Statement.{statement}
-use Rattle.abi_serial.proofs.eeprom_begin_dma.Tie as tie
+use Rattle.abi_dma.proofs.eeprom_begin_dma.Statement.{statement}
+use Rattle.abi_dma.proofs.eeprom_begin_dma.Tie as tie
 
 returns-3 : tie.Need-returns-3
 unfolding tells6 tells14
