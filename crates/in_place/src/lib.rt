@@ -158,23 +158,23 @@ fn none_read(memory: &[u8], value: &mut u32) -> u32
     0
 }
 
-// The byte at an address, or question 3. The flash kinds first: their way is the longest.
+// The byte at an address, or question 3.
 pub fn read_in_place(cart: &[u8], memory: &[u8], address: u32, value: &mut u32) -> u32
     requires { ⌜ length (now cart) ≡ 24 ⌝ }
     ensures { λ x. ⌜ (x, now (value .exit)) ≡ readAt (kindOf (getD (now (cart .entry)) 4 0)) (stateOf (now (cart .entry)) (now (memory .entry))) address (now (value .entry)) ⌝ }
 {
     let kind = cart[4];
-    if 1 < kind {
-        if kind < 4 {
-            if kind == 2 {
-                return flash_kind_read(0x1B32, 65536, cart, memory, address, value);
-            }
-            return flash_kind_read(0x1362, 131072, cart, memory, address, value);
+    if kind < 2 {
+        if kind == 1 {
+            return plain_read(32768, memory, address, value);
         }
+        return none_read(memory, value);
+    }
+    if 3 < kind {
         return plain_read(8192, memory, address, value);
     }
-    if kind == 1 {
-        return plain_read(32768, memory, address, value);
+    if kind == 2 {
+        return flash_kind_read(0x1B32, 65536, cart, memory, address, value);
     }
-    none_read(memory, value)
+    flash_kind_read(0x1362, 131072, cart, memory, address, value)
 }
