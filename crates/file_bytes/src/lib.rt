@@ -8,15 +8,31 @@ ghost use lib.ListN.{length};
 ghost use Rattle.lists.specs.Lists.{into};
 ghost use Rattle.memory.specs.Memory.{filled};
 
-fn room() -> [u8; 8192]
+fn small_room() -> [u8; 8192]
     ensures { λ r. ⌜ length r ≡ 8192 ⌝ }
 {
     [0; 8192]
 }
 
-// By way of an array that lies apart from both, which the compiler leaves out: one move of the whole.
-fn copy_whole(s: &mut [u8], output: &[u8])
+fn room() -> [u8; 32768]
+    ensures { λ r. ⌜ length r ≡ 32768 ⌝ }
+{
+    [0; 32768]
+}
+
+// An EEPROM's memory, and a block of 32,768 bytes: by way of an array that lies apart from both, which the compiler leaves out, so that one move of
+// the whole is left.
+fn copy_small(s: &mut [u8], output: &[u8])
     requires { ⌜ (length (now output) ≡ 8192) × (8192 ≤ length (now s)) ⌝ }
+    ensures { λ _. ⌜ now (s .exit) ≡ into (now (output .entry)) (now (s .entry)) ⌝ }
+{
+    let mut held = small_room();
+    copy(&mut held[..], output);
+    copy(s, &held[..]);
+}
+
+fn copy_block(s: &mut [u8], output: &[u8])
+    requires { ⌜ (length (now output) ≡ 32768) × (32768 ≤ length (now s)) ⌝ }
     ensures { λ _. ⌜ now (s .exit) ≡ into (now (output .entry)) (now (s .entry)) ⌝ }
 {
     let mut held = room();
@@ -24,16 +40,29 @@ fn copy_whole(s: &mut [u8], output: &[u8])
     copy(s, &held[..]);
 }
 
-// `copy`, at the length of an EEPROM's memory in one move.
+fn copy_blocks(s: &mut [u8], output: &[u8])
+    requires { ⌜ length (now output) ≤ length (now s) ⌝ }
+    ensures { λ _. ⌜ now (s .exit) ≡ into (now (output .entry)) (now (s .entry)) ⌝ }
+{
+    let mut k = 0;
+    while 32768 <= output.len() - k {
+        let end = k + 32768;
+        copy_block(&mut s[k..], &output[k..end]);
+        k = end;
+    }
+    copy(&mut s[k..], &output[k..]);
+}
+
+// `copy`, in few moves.
 pub fn copy_file(s: &mut [u8], output: &[u8])
     requires { ⌜ length (now output) ≤ length (now s) ⌝ }
     ensures { λ _. ⌜ now (s .exit) ≡ into (now (output .entry)) (now (s .entry)) ⌝ }
 {
     if output.len() == 8192 {
-        copy_whole(s, output);
+        copy_small(s, output);
         return;
     }
-    copy(s, output);
+    copy_blocks(s, output);
 }
 
 // FFh everywhere, then the file's first bytes.

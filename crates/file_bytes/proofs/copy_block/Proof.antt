@@ -1,20 +1,20 @@
--- `file_bytes::copy_whole` meets its contract. Assumes nothing.
+-- `file_bytes::copy_block` meets its contract. Assumes nothing.
 use mathlib.Core.List.{List}
 use mathlib.Core.Path.{ap, sym, _∙_}
 use Prim.Native.Nat.{ℕ}
 use Rattle.lists.specs.Lists.{into}
 use Rattle.file_bytes.proofs.Loads.{into-whole}
 use borrow.Author.Needs.{needs}
-use Rattle.file_bytes.proofs.copy_whole.Statement.{statement}
-use Rattle.file_bytes.proofs.copy_whole.Tie as tie
+use Rattle.file_bytes.proofs.copy_block.Statement.{statement}
+use Rattle.file_bytes.proofs.copy_block.Tie as tie
 
 returns : tie.Need-returns
 returns c =
     c .before .before .copy2 .ensures
     ∙ ap (λ (xs : List ℕ). into xs (c .before .before .before .before .before .before .before .before .before .before .before .args .s .now)) (c .before .before .before .before .before .before .copy .ensures ∙ into-whole (c .before .before .before .before .before .before .before .before .before .before .before .args .output .now) _ (c .before .before .before .before .before .before .before .before .before .before .before .pre .0 ∙ sym (c .before .before .before .before .before .before .before .before .room .ensures)))
 
-pub copy-whole-spec : {M : Type 1} → statement M
-copy-whole-spec =
+pub copy-block-spec : {M : Type 1} → statement M
+copy-block-spec =
     tie.close
     (tie.spec
     (λ c κs. search needs)
