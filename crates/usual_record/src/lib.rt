@@ -80,7 +80,7 @@ fn flash_by_kind(bytes: &[u8]) -> bool
     flash_usual(bytes)
 }
 
-fn byte_usual_in(bytes: &[u8]) -> bool
+fn write_usual_in(bytes: &[u8]) -> bool
     requires { ⌜ length (now bytes) ≡ 24 ⌝ }
     ensures { λ b. ⌜ (b ≡ true → isKnown (now (bytes .entry)) ≡ true → isRecord (now (bytes .entry)) ≡ true) ⌝ }
 {
@@ -126,7 +126,7 @@ pub fn read_usual(r: &[u8; 24]) -> bool
 pub fn write_usual(r: &[u8; 24]) -> bool
     ensures { λ b. ⌜ (b ≡ true → isKnown (now (r .entry)) ≡ true → isRecord (now (r .entry)) ≡ true) ⌝ }
 {
-    byte_usual_in(&r[..])
+    write_usual_in(&r[..])
 }
 
 fn fields_usual_in(bytes: &[u8]) -> bool
