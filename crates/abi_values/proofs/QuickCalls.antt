@@ -1,10 +1,12 @@
 -- Calls that answer one number, made on the bytes of a usual record. Assumes nothing.
 use mathlib.Core.Path.{_≡_, refl, sym, ap, _∙_}
+use mathlib.Core.Logic.{_≢_}
 use mathlib.Core.Bool.{true, false}
 use mathlib.Core.List.{List, []}
-use Prim.Native.Nat.{ℕ, _<_}
+use Prim.Native.Nat.{ℕ, _≤_}
 use native.Mathlib.Omega.{arith}
 use lib.ListN.{getD, set, take}
+use lib.Seq.{set-getD}
 use Rattle.abi_places.specs.Places.{kindOf}
 use Rattle.lists.specs.Lists.{lowFirst, lowValue}
 use Rattle.lists.proofs.Bools.{either}
@@ -31,15 +33,26 @@ module _ (r : List ℕ) (h : isRecord r ≡ true) (g : (recordAllowed (cartOf r)
   flag-bit : getD r 5 0 ≡ bit (cartOf r .dirty)
   flag-bit = ap (λ (l : List ℕ). getD l 5 0) (sym (g .1)) ∙ flag-read (cartOf r)
 
-  pub flag-lt : getD r 5 0 < 256
-  flag-lt = rw flag-bit (either (λ n. n < 256) (cartOf r .dirty) (omega arith) (omega arith))
+  flag-le : getD r 5 0 ≤ 1
+  flag-le = rw flag-bit (either (λ n. n ≤ 1) (cartOf r .dirty) (omega arith) (omega arith))
 
-  pub take-quick : (m : List ℕ) (place : ℕ) → (0, set r 5 0, m, getD r 5 0) ≡ flagAt r m place
+  take-quick : (m : List ℕ) (place : ℕ) → (0, set r 5 0, m, getD r 5 0) ≡ flagAt r m place
   unfolding flagAt questions accepted
   take-quick m place =
       let e = ap (λ (l : List ℕ). set l 5 0) (sym (g .1)) ∙ flag-cleared (cartOf r) in
       rw (h, step-yes takeSaveDirty [] (state (cartOf r) m) 0 (rw (g .0)) refl)
       (λ i. (0, e i, m, flag-bit i))
+
+  -- clear, and set
+  pub take-clear : (m : List ℕ) (place : ℕ) → getD r 5 0 ≡ 0 → (0, r, m, 0) ≡ flagAt r m place
+  take-clear m place e =
+      let k : r ≡ set r 5 0 = sym (set-getD r 5 0) ∙ ap (λ (n : ℕ). set r 5 n) e in
+      (λ i. (0, k i, m, sym e i)) ∙ take-quick m place
+
+  pub take-set : (m : List ℕ) (place : ℕ) → getD r 5 0 ≢ 0 → (0, set r 5 0, m, 1) ≡ flagAt r m place
+  take-set m place z =
+      let e : 1 ≡ getD r 5 0 = omega (arith, flag-le, z) in
+      ap (λ (n : ℕ). (0, set r 5 0, m, n)) e ∙ take-quick m place
 
   pub uses-quick : (place : ℕ) {n : ℕ} → n ≡ bit (usesEeprom (kindOf (getD r 4 0))) → (0, n) ≡ askedAt usesEepromOf r place
   unfolding askedAt usesEepromOf cartOf

@@ -38,7 +38,11 @@ pub fn take_save_dirty(cart: &mut [u8; 24], flag: &mut u32) -> u32
     if !serial_usual(cart) {
         return take_any(cart, flag);
     }
-    *flag = cart[5] as u32;
+    if cart[5] == 0 {
+        *flag = 0;
+        return 0;
+    }
+    *flag = 1;
     cart[5] = 0;
     0
 }

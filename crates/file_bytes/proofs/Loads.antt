@@ -1,12 +1,11 @@
 -- A file laid over a memory, and one of its own length. Assumes nothing.
-use mathlib.Core.Path.{_≡_, refl, sym, ap, _∙_}
-use mathlib.Core.List.{List, [], _++_, append-nil}
-use Prim.Native.Nat.{ℕ, _+_, _-_, _≤_}
+use mathlib.Core.Path.{_≡_}
+use mathlib.Core.List.{List, _++_, append-nil}
+use Prim.Native.Nat.{ℕ, _-_, _≤_}
 use native.Mathlib.Omega.{arith}
-use lib.ListN.{length, take, drop, length-drop, drop-of-length-le, take-append-drop}
-use lib.Seq.{take-all, take-add, drop-at, drop-length, length-take-le}
+use lib.ListN.{length, take, drop, length-drop, drop-of-length-le}
+use lib.Seq.{take-all, drop-at, drop-length, length-take-le}
 use Rattle.lists.specs.Lists.{into}
-use Rattle.lists.proofs.Parts.{rest, past-rest, into-more}
 use Rattle.memory.specs.Memory.{erased, filled}
 use Rattle.memory.proofs.Memory.{erased-0}
 
@@ -30,24 +29,3 @@ filled-short m f h =
 pub into-whole : (f d : List ℕ) → length f ≡ length d → into f d ≡ f
 unfolding into
 into-whole f d e = rw (e, drop-length d) (append-nil f)
-
--- the front of a file laid down, and more of it behind that
-pub more : (f d s : List ℕ) (k : ℕ) (ys o : List ℕ) → s ≡ into (take k f) d → k ≤ length f → length f ≤ length d → o ≡ into ys (take (length s - k) (drop k s))
-    → take k s ++ (o ++ drop (length s - k) (drop k s)) ≡ into (take k f ++ ys) d
-more f d s k ys o e h l w =
-    let a : o ++ drop (length s - k) (drop k s) ≡ into ys (drop k s) = rw (past-rest k s, append-nil o) (w ∙ ap (λ (x : List ℕ). into ys x) (rest k s)) in
-    ap (λ (x : List ℕ). take k s ++ x) a
-    ∙ ap (λ (x : List ℕ). take k x ++ into ys (drop k x)) e
-    ∙ into-more (take k f) ys d k (sym (length-take-le k f h)) (omega arith)
-
-pub block-front : (f : List ℕ) (k : ℕ) → take k f ++ take (k + 32768 - k) (drop k f) ≡ take (k + 32768) f
-block-front f k =
-    let e : k + 32768 - k ≡ 32768 = omega arith in
-    ap (λ (n : ℕ). take k f ++ take n (drop k f)) e ∙ sym (take-add k 32768 f)
-
-pub whole-front : (f : List ℕ) (k : ℕ) → take k f ++ take (length f - k) (drop k f) ≡ f
-whole-front f k = ap (λ (ys : List ℕ). take k f ++ ys) (rest k f) ∙ take-append-drop k f
-
-pub none-yet : (d : List ℕ) → d ≡ into [] d
-unfolding into
-none-yet d = refl

@@ -8,61 +8,77 @@ ghost use lib.ListN.{length};
 ghost use Rattle.lists.specs.Lists.{into};
 ghost use Rattle.memory.specs.Memory.{filled};
 
-fn small_room() -> [u8; 8192]
+fn room_512() -> [u8; 512]
+    ensures { λ r. ⌜ length r ≡ 512 ⌝ }
+{
+    [0; 512]
+}
+
+fn room_8k() -> [u8; 8192]
     ensures { λ r. ⌜ length r ≡ 8192 ⌝ }
 {
     [0; 8192]
 }
 
-fn room() -> [u8; 32768]
+fn room_32k() -> [u8; 32768]
     ensures { λ r. ⌜ length r ≡ 32768 ⌝ }
 {
     [0; 32768]
 }
 
-// An EEPROM's memory, and a block of 32,768 bytes: by way of an array that lies apart from both, which the compiler leaves out, so that one move of
-// the whole is left.
-fn copy_small(s: &mut [u8], output: &[u8])
-    requires { ⌜ (length (now output) ≡ 8192) × (8192 ≤ length (now s)) ⌝ }
+fn room_64k() -> [u8; 65536]
+    ensures { λ r. ⌜ length r ≡ 65536 ⌝ }
+{
+    [0; 65536]
+}
+
+fn room_128k() -> [u8; 131072]
+    ensures { λ r. ⌜ length r ≡ 131072 ⌝ }
+{
+    [0; 131072]
+}
+
+// By way of an array that lies apart from both: the compiler leaves it out, and one move of the whole is left.
+fn copy_through(held: &mut [u8], s: &mut [u8], output: &[u8])
+    requires { ⌜ (length (now output) ≡ length (now held)) × (length (now output) ≤ length (now s)) ⌝ }
     ensures { λ _. ⌜ now (s .exit) ≡ into (now (output .entry)) (now (s .entry)) ⌝ }
 {
-    let mut held = small_room();
-    copy(&mut held[..], output);
+    let n = held.len();
+    copy(held, &output[..n]);
     copy(s, &held[..]);
 }
 
-fn copy_block(s: &mut [u8], output: &[u8])
-    requires { ⌜ (length (now output) ≡ 32768) × (32768 ≤ length (now s)) ⌝ }
-    ensures { λ _. ⌜ now (s .exit) ≡ into (now (output .entry)) (now (s .entry)) ⌝ }
-{
-    let mut held = room();
-    copy(&mut held[..], output);
-    copy(s, &held[..]);
-}
-
-fn copy_blocks(s: &mut [u8], output: &[u8])
-    requires { ⌜ length (now output) ≤ length (now s) ⌝ }
-    ensures { λ _. ⌜ now (s .exit) ≡ into (now (output .entry)) (now (s .entry)) ⌝ }
-{
-    let mut k = 0;
-    while 32768 <= output.len() - k {
-        let end = k + 32768;
-        copy_block(&mut s[k..], &output[k..end]);
-        k = end;
-    }
-    copy(&mut s[k..], &output[k..]);
-}
-
-// `copy`, in few moves.
+// `copy`, in one move where the length is a save file's.
 pub fn copy_file(s: &mut [u8], output: &[u8])
     requires { ⌜ length (now output) ≤ length (now s) ⌝ }
     ensures { λ _. ⌜ now (s .exit) ≡ into (now (output .entry)) (now (s .entry)) ⌝ }
 {
-    if output.len() == 8192 {
-        copy_small(s, output);
+    if output.len() == 512 {
+        let mut held = room_512();
+        copy_through(&mut held[..], s, output);
         return;
     }
-    copy_blocks(s, output);
+    if output.len() == 8192 {
+        let mut held = room_8k();
+        copy_through(&mut held[..], s, output);
+        return;
+    }
+    if output.len() == 32768 {
+        let mut held = room_32k();
+        copy_through(&mut held[..], s, output);
+        return;
+    }
+    if output.len() == 65536 {
+        let mut held = room_64k();
+        copy_through(&mut held[..], s, output);
+        return;
+    }
+    if output.len() == 131072 {
+        let mut held = room_128k();
+        copy_through(&mut held[..], s, output);
+        return;
+    }
+    copy(s, output);
 }
 
 // FFh everywhere, then the file's first bytes.
@@ -76,5 +92,5 @@ pub fn load(memory: &mut [u8], file: &[u8])
     }
     let k = file.len();
     erase(&mut memory[k..]);
-    copy(memory, file);
+    copy_file(memory, file);
 }

@@ -97,10 +97,8 @@ fn read_usual_in(bytes: &[u8]) -> bool
     requires { ⌜ length (now bytes) ≡ 24 ⌝ }
     ensures { λ b. ⌜ (b ≡ true → isKnown (now (bytes .entry)) ≡ true → isRecord (now (bytes .entry)) ≡ true) ⌝ }
 {
-    if 1 < bytes[5] {
-        return false;
-    }
-    if bytes[6] != 0 {
+    // the flag and the flash state
+    if 1 < low16(bytes[5], bytes[6]) {
         return false;
     }
     if 1 < bytes[7] {
@@ -133,13 +131,8 @@ fn fields_usual_in(bytes: &[u8]) -> bool
     requires { ⌜ length (now bytes) ≡ 24 ⌝ }
     ensures { λ b. ⌜ (b ≡ true → FieldsUsual (now (bytes .entry))) ⌝ }
 {
-    if 1 < bytes[5] {
-        return false;
-    }
-    if low16(bytes[6], bytes[7]) != 0 {
-        return false;
-    }
-    if bytes[8] != 0 {
+    // the flag, and the flash chip at rest
+    if 1 < low32(bytes[5], bytes[6], bytes[7], bytes[8]) {
         return false;
     }
     if 1 < bytes[10] {

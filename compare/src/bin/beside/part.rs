@@ -71,13 +71,13 @@ impl Part {
         answer(|written| unsafe { gbasave_save_data(&self.record, memory, length, to, room, written) })
     }
 
-    /// Export into new memory, as the original does it.
-    pub fn save_file(&self) -> Vec<u8> {
+    /// Export into new memory of that length, as the original does it.
+    pub fn save_file(&self, room: usize) -> Vec<u8> {
         let (memory, length) = (self.memory.as_ptr(), self.memory.len());
-        let mut file: Vec<u8> = Vec::with_capacity(length);
+        let mut file: Vec<u8> = Vec::with_capacity(room);
         let mut written = 0;
         unsafe {
-            gbasave_save_data(&self.record, memory, length, file.as_mut_ptr(), length, &mut written);
+            gbasave_save_data(&self.record, memory, length, file.as_mut_ptr(), room, &mut written);
             file.set_len(written as usize);
         }
         file

@@ -1,14 +1,13 @@
 -- `file_bytes::load` meets its contract. Assumes nothing.
 use mathlib.Core.List.{List, _++_}
+use mathlib.Core.Path.{refl, ap, sym, _∙_}
 use Prim.Native.Nat.{ℕ, _-_}
-use lib.ListN.{take, drop, length-drop}
+use native.Mathlib.Omega.{arith}
+use lib.ListN.{length, take, drop, length-drop}
+use lib.Seq.{length-take-le}
 use Rattle.lists.specs.Lists.{into}
 use Rattle.lists.proofs.Parts.{rest}
 use Rattle.memory.specs.Memory.{erased}
-use mathlib.Core.Path.{refl, ap, sym, _∙_}
-use native.Mathlib.Omega.{arith}
-use lib.ListN.{length}
-use lib.Seq.{length-take-le}
 use Rattle.file_bytes.proofs.Loads.{filled-long, filled-short}
 use borrow.Author.Needs.{needs}
 use Rattle.file_bytes.proofs.load.Statement.{statement}
@@ -24,11 +23,10 @@ returns : tie.Need-returns
 returns c = let a = c .before .before .before .before .before .before .before .before .args in c .before .before .copy-file .ensures ∙ filled-long (length (a .memory .now)) (a .memory .now) (a .file .now) refl (c .before .before .before .before .before .if1 .taken)
 
 returns-2 : tie.Need-returns-2
-returns-2 c =
-    let m = c .before .before .before .before .before .before .before .before .before .before .before .args .memory .now in
+returns-2 c = let m = c .before .before .before .before .before .before .before .before .before .before .before .args .memory .now in
     let f = c .before .before .before .before .before .before .before .before .before .before .before .args .file .now in
     let e = c .before .before .before .before .before .before .erase .ensures ∙ ap erased (ap length (rest (length f) m) ∙ length-drop (length f) m) in
-    c .before .before .copy .ensures
+    c .before .before .copy-file2 .ensures
     ∙ ap (λ (ys : List ℕ). into f (take (length f) m ++ (ys ++ drop (length m - length f) (drop (length f) m)))) e
     ∙ filled-short m f (omega arith)
 

@@ -1,4 +1,4 @@
-use mathlib.Core.Path.{sym, _∙_}
+-- `usual_record::fields_usual_in` meets its contract. Assumes nothing.
 use native.Mathlib.Omega.{arith}
 use borrow.Author.Tests.{leb-true}
 use Rattle.lists.proofs.Bools.{granted}
@@ -20,21 +20,16 @@ returns-4 : tie.Need-returns-4
 returns-4 c = λ e. never e
 
 returns-5 : tie.Need-returns-5
-returns-5 c = λ e. never e
-
-returns-6 : tie.Need-returns-6
-returns-6 c = λ e. never e
-
-returns-7 : tie.Need-returns-7
-returns-7 c = λ e.
-    let z = sym (c .before .before .before .before .before .before .before .before .before .before .before .low16 .ensures) ∙ c .before .before .before .before .before .before .before .before .before .before .if2 .left in
+returns-5 c = λ e.
+    let z = c .before .before .before .before .before .before .before .before .before .low32 .ensures in
+    let l = c .before .before .before .before .before .before .before .before .if1 .left in
     record {
-      size = c .before .before .before .before .before .before .before .before .before .before .before .before .before .before .before .before .before .pre;
-      flag = c .before .before .before .before .before .before .before .before .before .before .before .before .before .before .if1 .left;
-      flash = flash-zero (c .before .before .before .before .before .before .before .before .before .before .before .before .before .before .before .before .before .args .bytes .now) (omega (arith, z)) (omega (arith, z)) (omega (arith, c .before .before .before .before .before .before .before .before .if3 .left));
-      width = granted _ (c .before .before .before .before .width-allowed .ensures) (c .before .before .before .if5 .left);
-      large = c .before .before .before .before .before .before .if4 .left;
-      block = omega (arith, c .before .if6 .left, c .before .before .before .before .before .before .before .before .before .before .before .before .before .before .before .before .shared-slice-known .given 13);
+      size = c .before .before .before .before .before .before .before .before .before .before .before .before .before .before .before .pre;
+      flag = omega (arith, z, l);
+      flash = flash-zero (c .before .before .before .before .before .before .before .before .before .before .before .before .before .before .before .args .bytes .now) (omega (arith, z, l)) (omega (arith, z, l)) (omega (arith, z, l));
+      width = granted _ (c .before .before .before .before .width-allowed .ensures) (c .before .before .before .if3 .left);
+      large = c .before .before .before .before .before .before .if2 .left;
+      block = omega (arith, c .before .if4 .left, c .before .before .before .before .before .before .before .before .before .before .before .before .before .before .shared-slice-known .given 13);
       place = leb-true _ 67 e;
     }
 
@@ -43,19 +38,17 @@ fields-usual-in-spec =
     tie.close
     (tie.spec
     (λ c. search needs)
-    returns
+    (λ c. search needs)
     (λ c. search needs)
     (λ c. search needs)
     (λ c κs. search needs)
+    returns
+    (λ c. search needs)
     returns-2
     (λ c. search needs)
+    (λ c κs. search needs)
     returns-3
     (λ c. search needs)
     returns-4
     (λ c. search needs)
-    (λ c κs. search needs)
-    returns-5
-    (λ c. search needs)
-    returns-6
-    (λ c. search needs)
-    returns-7)
+    returns-5)

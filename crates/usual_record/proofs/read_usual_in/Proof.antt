@@ -3,6 +3,7 @@ use Prim.Native.Nat.{_≤_}
 use native.Mathlib.Omega.{arith}
 use borrow.Author.Tests.{leb-true}
 use Rattle.usual_record.proofs.QuickTests.{never, flash-zero, rests-record}
+-- `usual_record::read_usual_in` meets its contract. Assumes nothing.
 use borrow.Author.Needs.{needs}
 use Rattle.usual_record.proofs.read_usual_in.Statement.{statement}
 use Rattle.usual_record.proofs.read_usual_in.Tie as tie
@@ -14,18 +15,16 @@ returns-2 : tie.Need-returns-2
 returns-2 c = λ e h. never e
 
 returns-3 : tie.Need-returns-3
-returns-3 c = λ e h. never e
-
-returns-4 : tie.Need-returns-4
-returns-4 c =
-    λ e h.
+returns-3 c = λ e h.
+    let f = c .before .before .before .before .before .before .before .before .before .before .before .before .before .before .low16 .ensures in
+    let g = c .before .before .before .before .before .before .before .before .before .before .before .before .before .if1 .left in
     let z = c .low64 .ensures in
     let l : c .low64 .result ≤ 1 = leb-true _ 1 e in
     let a = c .before .before .before .before .before .before .low32 .ensures in
     let b = c .before .low322 .ensures in
     let r = c .before .before .before .before .before .before .before .before .before .before .before .before .before .before .before .before .before .before .args .bytes .now in
-    rests-record r (c .before .before .before .before .before .before .before .before .before .before .before .before .before .before .before .before .before .before .pre) (c .before .before .before .before .before .before .before .before .before .before .before .before .before .before .before .if1 .left)
-    (flash-zero r (c .before .before .before .before .before .before .before .before .before .before .before .before .before .if2 .left) (c .before .before .before .before .before .before .before .before .before .before .before .if3 .left) (omega (arith, z, l, a, b)))
+    rests-record r (c .before .before .before .before .before .before .before .before .before .before .before .before .before .before .before .before .before .before .pre) (omega (arith, f, g))
+    (flash-zero r (omega (arith, f, g)) (c .before .before .before .before .before .before .before .before .before .before .before .if2 .left) (omega (arith, z, l, a, b)))
     (record { width = omega (arith, z, l, a, b); large = omega (arith, z, l, a, b); phase = omega (arith, z, l, a, b); count = omega (arith, z, l, a, b); block = omega (arith, z, l, a, b); place = omega (arith, z, l, a, b) })
     h
 
@@ -34,12 +33,12 @@ read-usual-in-spec =
     tie.close
     (tie.spec
     (λ c. search needs)
+    (λ c. search needs)
+    (λ c κs. search needs)
     returns
     (λ c. search needs)
     returns-2
     (λ c. search needs)
-    returns-3
-    (λ c. search needs)
     (λ c. search needs)
     (λ c. search needs)
     (λ c. search needs)
@@ -50,4 +49,4 @@ read-usual-in-spec =
     (λ c. search needs)
     (λ c κs. search needs)
     (λ c κs. search needs)
-    returns-4)
+    returns-3)

@@ -38,20 +38,35 @@ fn images() {
     row("CRC, 32 MiB", 1, || used(original::crc32(&image)), || used(part_image::rom_crc(&image)));
 }
 
+/// Files of every length that an export has. Each is loaded once in front of its rows, so that both sides export it whole.
 fn files() {
-    for (name, kind) in [("Sram", kind::SRAM), ("Flash128", kind::FLASH128), ("Eeprom512", kind::EEPROM512)] {
+    for (name, kind, length) in [
+        ("Sram", kind::SRAM, 32_768),
+        ("Flash64", kind::FLASH64, 65_536),
+        ("Flash128", kind::FLASH128, 131_072),
+        ("Eeprom512", kind::EEPROM512, 512),
+        ("Eeprom512", kind::EEPROM512, 8_192),
+    ] {
         let image = of_kind(kind);
         let mut cart = original::open(&image).expect("an image of an allowed length");
-        let length = MEMORY[usize::from(kind)];
-        let (_, mut part) = Part::open(&image, length);
-        let file = file(length as u32, 3);
+        let (_, mut part) = Part::open(&image, MEMORY[usize::from(kind)]);
+        let file = file(length, 3);
+        original::load_save(&mut cart, &file);
+        part.load_save(&file);
+        assert_eq!(original::save_data(&cart).as_ref(), Some(&file));
+        assert_eq!(part.save_file(file.len()), file);
         row(
             &format!("load, {name}, {length} bytes"),
             1,
             || original::load_save(&mut cart, black_box(&file)),
             || used(part.load_save(black_box(&file))),
         );
-        row(&format!("export, {name}, {length} bytes"), 1, || used(original::save_data(&cart)), || used(part.save_file()));
+        row(
+            &format!("export, {name}, {length} bytes"),
+            1,
+            || used(original::save_data(&cart)),
+            || used(part.save_file(black_box(file.len()))),
+        );
     }
 }
 
