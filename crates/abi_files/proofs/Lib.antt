@@ -1,2 +1,4 @@
-pub mod Kept
+pub mod Large
+pub mod Loads
+pub mod Imports
 pub mod Exports

@@ -25,7 +25,7 @@ ghost use Rattle.cart.specs.Replies.{state, replied, exportReplied};
 ghost use Rattle.file_calls.specs.Files.{eepromLength, fileLength};
 
 // Whether the chip is large behind a file of n bytes.
-fn large_behind(large: bool, kind: SaveType, n: usize) -> bool
+pub fn large_behind(large: bool, kind: SaveType, n: usize) -> bool
     ensures { λ r. ⌜ r ≡ (large || usesEeprom kind && ltb 512 n) ⌝ }
 {
     if large {
@@ -64,7 +64,7 @@ pub fn load_save(cart: Cartridge, memory: &mut [u8], file: &[u8]) -> Reply
 }
 
 // How long the file is that a kind leaves: 0 where there is none.
-fn file_length(kind: SaveType, large: bool) -> usize
+pub fn file_length(kind: SaveType, large: bool) -> usize
     ensures { λ r. ⌜ r ≡ fileLength kind large ⌝ }
 {
     match kind {
@@ -118,7 +118,7 @@ pub fn import_save(cart: Cartridge, memory: &mut [u8], file: &[u8]) -> Reply
     done(part.len() as u32, load(cart, memory, part))
 }
 
-fn takes(kind: SaveType, n: usize) -> bool
+pub fn takes(kind: SaveType, n: usize) -> bool
     ensures { λ r. ⌜ r ≡ taken (saveFit kind n) ⌝ }
 {
     let fit = save_fit(kind, n);

@@ -1,20 +1,33 @@
 -- `abi_files::load_save` meets its contract. Assumes nothing.
+use mathlib.Core.Path.{ap}
 use mathlib.Core.List.{[]}
-use Rattle.cart.specs.Calls.{loadSave, step}
+use native.Mathlib.Omega.{arith}
 use Rattle.lists.proofs.Bools.{denied, granted}
-use Rattle.abi_record.proofs.Calls.{called-no, called-yes}
+use Rattle.kind.specs.Kind.{memorySize}
+use Rattle.cart.specs.Calls.{loadSave, step}
+use Rattle.abi_record.proofs.Calls.{called-no}
+use Rattle.abi_files.proofs.Loads.{no-memory, load-done}
 use borrow.Author.Needs.{needs}
 use Rattle.abi_files.proofs.load_save.Statement.{statement}
 use Rattle.abi_files.proofs.load_save.Tie as tie
 
 returns : tie.Need-returns
-returns c = let a = c .before .before .before .before .before .args in called-no (step (loadSave (a .file .now)) []) (a .cart .now) (a .memory .now) (denied _ (c .before .is-record .ensures .0) (c .if1 .taken))
-
-cart-of-requires : tie.Need-cart-of-requires
-cart-of-requires c κs = granted _ (c .before .before .is-record .ensures .0) (c .before .if1 .left)
+returns c = let a = c .before .before .before .before .before .args in called-no (step (loadSave (a .file .now)) []) (a .cart .now) (a .memory .now) (denied _ (c .before .stands .ensures .0) (c .if1 .taken))
 
 returns-2 : tie.Need-returns-2
-returns-2 c = let a = c .before .before .before .before .before .before .before .before .before .before .before .before .before .args in called-yes (step (loadSave (a .file .now)) []) (a .cart .now) (a .memory .now) (c .before .before .before .before .load-save .result) (granted _ (c .before .before .before .before .before .before .before .before .before .is-record .ensures .0) (c .before .before .before .before .before .before .before .before .if1 .left)) (c .before .before .before .before .before .before .cart-of .ensures .0) (c .before .before .before .before .load-save .ensures) (c .write-back .ensures)
+returns-2 c =
+    let a = c .before .before .before .before .before .before .before .before .before .args in
+    let h = granted _ (c .before .before .before .before .before .stands .ensures .0) (c .before .before .before .before .if1 .left) in
+    no-memory (a .cart .now) h (c .before .before .before .before .before .stands .ensures .1 h) (a .memory .now) (a .file .now) (λ e. omega (arith, e, c .if2 .taken, c .before .memory-size .ensures, ap memorySize (c .before .before .kind-of .ensures)))
+
+load-in-place-requires : tie.Need-load-in-place-requires
+load-in-place-requires c κs = (search needs, granted _ (c .before .before .before .before .before .before .before .stands .ensures .0) (c .before .before .before .before .before .before .if1 .left), omega (arith, c .before .before .if2 .left, c .before .before .before .memory-size .ensures, ap memorySize (c .before .before .before .before .kind-of .ensures)))
+
+returns-3 : tie.Need-returns-3
+returns-3 c =
+    let a = c .before .before .before .before .before .before .before .before .before .before .before .before .before .before .args in
+    let h = granted _ (c .before .before .before .before .before .before .before .before .before .before .stands .ensures .0) (c .before .before .before .before .before .before .before .before .before .if1 .left) in
+    load-done (a .cart .now) h (c .before .before .before .before .before .before .before .before .before .before .stands .ensures .1 h) (a .memory .now) (a .file .now) (omega (arith, c .before .before .before .before .before .if2 .left, c .before .before .before .before .before .before .memory-size .ensures, ap memorySize (c .before .before .before .before .before .before .before .kind-of .ensures))) (c .before .before .load-in-place .ensures)
 
 pub load-save-spec : {M : Type 1} → statement M
 load-save-spec =
@@ -22,8 +35,10 @@ load-save-spec =
     (tie.spec
     (λ c κs. search needs)
     returns
-    cart-of-requires
-    (λ c κs. search needs)
-    (λ c κs. search needs)
     (λ c. search needs)
-    returns-2)
+    (λ c κs. search needs)
+    (λ c κs. search needs)
+    returns-2
+    load-in-place-requires
+    (λ c. search needs)
+    returns-3)

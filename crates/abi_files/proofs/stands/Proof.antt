@@ -1,0 +1,21 @@
+-- `abi_files::stands` meets its contract. Assumes nothing.
+use mathlib.Core.Path.{sym}
+use Rattle.lists.proofs.Bools.{granted}
+use borrow.Author.Needs.{needs}
+use Rattle.abi_files.proofs.stands.Statement.{statement}
+use Rattle.abi_files.proofs.stands.Tie as tie
+
+returns-2 : tie.Need-returns-2
+returns-2 c = let k = c .before .before .before .known .ensures in (sym (c .before .serial-usual .ensures (c .if2 .taken) (granted _ (k .0) (c .before .before .if1 .left))), k .1)
+
+pub stands-spec : {M : Type 1} → statement M
+stands-spec =
+    tie.close
+    (tie.spec
+    (λ c κs. search needs)
+    (λ c κs. search needs)
+    (λ c. search needs)
+    (λ c κs. search needs)
+    returns-2
+    (λ c κs. search needs)
+    (λ c. search needs))
