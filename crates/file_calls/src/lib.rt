@@ -1,4 +1,4 @@
-// `load_save`, `save_data` and import: the file calls.
+// `load_save` and `save_data`: the file calls.
 
 use cart::Cartridge;
 use cart::Reply;
@@ -8,9 +8,6 @@ use cart::refuse;
 use cart::with_eeprom;
 use eeprom::told;
 use file_bytes::copy_file;
-use files::SaveFit;
-use files::kept_part;
-use files::save_fit;
 use kind::SaveType;
 use kind::uses_eeprom;
 ghost use mathlib.Core.Path.{_≡_};
@@ -19,8 +16,7 @@ ghost use mathlib.Core.List.{[]};
 ghost use lib.Dec.{ltb};
 ghost use lib.ListN.{length};
 ghost use Rattle.kind.specs.Kind.{memorySize, usesEeprom};
-ghost use Rattle.files.specs.SaveFit.{saveFit, taken};
-ghost use Rattle.cart.specs.Calls.{loadSave, saveData, load as load·spec, importSave, step};
+ghost use Rattle.cart.specs.Calls.{loadSave, saveData, load as load·spec, step};
 ghost use Rattle.cart.specs.Replies.{state, replied, exportReplied};
 ghost use Rattle.file_calls.specs.Files.{eepromLength, fileLength};
 
@@ -100,30 +96,4 @@ pub fn save_data(cart: Cartridge, memory: &[u8], destination: &mut [u8]) -> Repl
     }
     copy_file(destination, &memory[..n]);
     done(n as u32, cart)
-}
-
-// A file of a length that `save_fit` takes, its footer cut off; the answer is the length of what is kept.
-pub fn import_save(cart: Cartridge, memory: &mut [u8], file: &[u8]) -> Reply
-    ensures { λ r. ⌜ (r, now (memory .exit)) ≡ replied (importSave (now (file .entry)) (state cart (now (memory .entry)))) ⌝ }
-{
-    let refusal = door(cart, memory.len());
-    if refusal != 0 {
-        return refuse(refusal, cart);
-    }
-    let kind = cart.kind;
-    if !takes(kind, file.len()) {
-        return refuse(14, cart);
-    }
-    let part = kept_part(kind, file);
-    done(part.len() as u32, load(cart, memory, part))
-}
-
-pub fn takes(kind: SaveType, n: usize) -> bool
-    ensures { λ r. ⌜ r ≡ taken (saveFit kind n) ⌝ }
-{
-    let fit = save_fit(kind, n);
-    match fit {
-        SaveFit::Keeps(_) => true,
-        SaveFit::Refused => false,
-    }
 }

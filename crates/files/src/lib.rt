@@ -5,7 +5,7 @@ use kind::detect_save_type;
 use kind::kind_number;
 ghost use mathlib.Core.Path.{_≡_};
 ghost use Rattle.kind.specs.Kind.{byKind};
-ghost use Rattle.files.specs.SaveFit.{chipSize, saveFit, saveSize, saveFitOf, saveSizeOf, keptPart};
+ghost use Rattle.files.specs.SaveFit.{chipSize, saveFit, taken, saveSize, saveFitOf, saveSizeOf, keptPart};
 
 // How many bytes of a save file are kept, or that the file cannot be this kind's.
 pub enum SaveFit {
@@ -64,6 +64,16 @@ pub fn save_fit(kind: SaveType, file: usize) -> SaveFit
         return SaveFit::Keeps(save_size(kind));
     }
     SaveFit::Refused
+}
+
+pub fn takes(kind: SaveType, n: usize) -> bool
+    ensures { λ r. ⌜ r ≡ taken (saveFit kind n) ⌝ }
+{
+    let fit = save_fit(kind, n);
+    match fit {
+        SaveFit::Keeps(_) => true,
+        SaveFit::Refused => false,
+    }
 }
 
 // The same of an image.

@@ -38,6 +38,27 @@ fn images() {
     row("CRC, 32 MiB", 1, || used(original::crc32(&image)), || used(part_image::rom_crc(&image)));
 }
 
+/// Cartridges of one side that take turns. Where a memory lies moves the time of a copy by some hundredths; opened alternately, the sides' memories
+/// lie alike on the whole.
+struct Turns<T> {
+    all: Vec<T>,
+    calls: usize,
+}
+
+impl<T> Turns<T> {
+    const CARTRIDGES: usize = 5;
+    const CALLS: usize = 16;
+
+    fn new() -> Self {
+        Self { all: Vec::new(), calls: 0 }
+    }
+
+    fn next(&mut self) -> &mut T {
+        self.calls += 1;
+        &mut self.all[self.calls / Self::CALLS % Self::CARTRIDGES]
+    }
+}
+
 /// Files of every length that an export has. Each is loaded once in front of its rows, so that both sides export it whole.
 fn files() {
     for (name, kind, length) in [
@@ -48,24 +69,29 @@ fn files() {
         ("Eeprom512", kind::EEPROM512, 8_192),
     ] {
         let image = of_kind(kind);
-        let mut cart = original::open(&image).expect("an image of an allowed length");
-        let (_, mut part) = Part::open(&image, MEMORY[usize::from(kind)]);
         let file = file(length, 3);
-        original::load_save(&mut cart, &file);
-        part.load_save(&file);
-        assert_eq!(original::save_data(&cart).as_ref(), Some(&file));
-        assert_eq!(part.save_file(file.len()), file);
+        let (mut carts, mut parts) = (Turns::new(), Turns::new());
+        for _ in 0..Turns::<Part>::CARTRIDGES {
+            let mut cart = original::open(&image).expect("an image of an allowed length");
+            let (_, mut part) = Part::open(&image, MEMORY[usize::from(kind)]);
+            original::load_save(&mut cart, &file);
+            part.load_save(&file);
+            assert_eq!(original::save_data(&cart).as_ref(), Some(&file));
+            assert_eq!(part.save_file(file.len()), file);
+            carts.all.push(cart);
+            parts.all.push(part);
+        }
         row(
             &format!("load, {name}, {length} bytes"),
             1,
-            || original::load_save(&mut cart, black_box(&file)),
-            || used(part.load_save(black_box(&file))),
+            || original::load_save(carts.next(), black_box(&file)),
+            || used(parts.next().load_save(black_box(&file))),
         );
         row(
             &format!("export, {name}, {length} bytes"),
             1,
-            || used(original::save_data(&cart)),
-            || used(part.save_file(black_box(file.len()))),
+            || used(original::save_data(carts.next())),
+            || used(parts.next().save_file(black_box(file.len()))),
         );
     }
 }

@@ -1,8 +1,8 @@
 use mathlib.Core.Path.{sym, ap, _∙_}
 use Rattle.files.specs.SaveFit.{taken}
 use borrow.Author.Needs.{needs}
-use Rattle.file_calls.proofs.takes.Statement.{statement}
-use Rattle.file_calls.proofs.takes.Tie as tie
+use Rattle.files.proofs.takes.Statement.{statement}
+use Rattle.files.proofs.takes.Tie as tie
 
 returns : tie.Need-returns
 returns c = sym (ap taken (sym (c .before .before .save-fit .ensures) ∙ c .enum-told .given .1))
