@@ -10,8 +10,8 @@ use cart::bit;
 use kind::uses_eeprom as is_eeprom;
 use kind::window_start;
 use lists::low32;
+use usual_record::asked_usual;
 use usual_record::known;
-use usual_record::serial_usual;
 ghost use mathlib.Core.Path.{_≡_};
 ghost use mathlib.Core.List.{List};
 ghost use Prim.Native.Nat.{ℕ};
@@ -35,7 +35,7 @@ pub fn take_save_dirty(cart: &mut [u8; 24], flag: &mut u32) -> u32
     if !known(cart) {
         return take_any(cart, flag);
     }
-    if !serial_usual(cart) {
+    if !asked_usual(cart) {
         return take_any(cart, flag);
     }
     if cart[5] == 0 {
@@ -63,7 +63,7 @@ pub fn uses_eeprom(cart: &[u8; 24], answer: &mut u32) -> u32
     if !known(cart) {
         return uses_any(cart, answer);
     }
-    if !serial_usual(cart) {
+    if !asked_usual(cart) {
         return uses_any(cart, answer);
     }
     *answer = bit(is_eeprom(kind_of(cart[4]))) as u32;
@@ -86,7 +86,7 @@ pub fn eeprom_window_start(cart: &[u8; 24], start: &mut u32) -> u32
     if !known(cart) {
         return window_any(cart, start);
     }
-    if !serial_usual(cart) {
+    if !asked_usual(cart) {
         return window_any(cart, start);
     }
     *start = window_start(low32(cart[0], cart[1], cart[2], cart[3]) as usize);

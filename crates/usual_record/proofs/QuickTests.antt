@@ -57,6 +57,11 @@ pub count-data : (phase count : ℕ) → phase ≡ 3 → count < 64 → (width :
 unfolding phaseOf
 count-data phase count e l width large = (omega (arith, e), omega arith, rw e (lt-ltb count 64 l))
 
+-- the width
+pub width-14 : (width large : ℕ) → width ≡ 14 → large ≡ 1 → (widthAllowed width ≡ true) × (large ≤ 1)
+unfolding widthAllowed
+width-14 width large e f = (rw e refl, omega (arith, f))
+
 -- the flash chip at rest
 pub flash-zero : (r : List ℕ) → getD r 6 0 ≡ 0 → getD r 7 0 ≤ 1 → getD r 8 0 ≤ 1 → FlashUsual r
 unfolding stateAllowed

@@ -11,7 +11,7 @@ ghost use mathlib.Core.Path.{_≡_};
 ghost use mathlib.Core.Bool.{Bool, true};
 ghost use Prim.Native.Nat.{ℕ, _+_, _<_, _≤_};
 ghost use lib.ListN.{length};
-ghost use Rattle.eeprom.specs.Eeprom.{countLimit};
+ghost use Rattle.eeprom.specs.Eeprom.{widthAllowed, countLimit};
 ghost use Rattle.cart.specs.ChipState.{phaseOf};
 ghost use Rattle.cart.specs.Record.{recordAllowed};
 ghost use Rattle.abi_record.specs.RecordBytes.{recordBytes, cartOf, isRecord};
@@ -174,6 +174,45 @@ pub fn serial_usual(r: &[u8; 24]) -> bool
         return false;
     }
     count_usual(r[11], r[12])
+}
+
+fn width_usual(width: u8, large: u8) -> bool
+    ensures { λ b. ⌜ (b ≡ true → (widthAllowed width ≡ true) × (large ≤ 1)) ⌝ }
+{
+    // 14 and 1, in one
+    if low16(width, large) == 270 {
+        return true;
+    }
+    if 1 < large {
+        return false;
+    }
+    width_allowed(width)
+}
+
+fn asked_usual_in(bytes: &[u8]) -> bool
+    requires { ⌜ length (now bytes) ≡ 24 ⌝ }
+    ensures { λ b. ⌜ (b ≡ true → isKnown (now (bytes .entry)) ≡ true → isRecord (now (bytes .entry)) ≡ true) ⌝ }
+{
+    // the flag, and the flash chip at rest
+    if 1 < low32(bytes[5], bytes[6], bytes[7], bytes[8]) {
+        return false;
+    }
+    if !width_usual(bytes[9], bytes[10]) {
+        return false;
+    }
+    // the block, and the read place 0
+    if 3 < low16(bytes[14], bytes[15]) {
+        return false;
+    }
+    count_usual(bytes[11], bytes[12])
+}
+
+// For a call that asks for one number: the same of a chip that has not begun to be read, in fewer tests. They join bytes that serial calls store
+// singly.
+pub fn asked_usual(r: &[u8; 24]) -> bool
+    ensures { λ b. ⌜ (b ≡ true → isKnown (now (r .entry)) ≡ true → isRecord (now (r .entry)) ≡ true) ⌝ }
+{
+    asked_usual_in(&r[..])
 }
 
 // A bit of an opcode, an address or data, and not the last one.

@@ -8,7 +8,7 @@ use Rattle.abi_values.proofs.uses_eeprom.Statement.{statement}
 use Rattle.abi_values.proofs.uses_eeprom.Tie as tie
 
 returns-3 : tie.Need-returns-3
-returns-3 c = let h = c .before .before .before .before .before .serial-usual .ensures (granted _ refl (c .before .before .before .before .if2 .left)) (granted _ (c .before .before .before .before .before .before .before .known .ensures .0) (c .before .before .before .before .before .before .if1 .left)) in
+returns-3 c = let h = c .before .before .before .before .before .asked-usual .ensures (granted _ refl (c .before .before .before .before .if2 .left)) (granted _ (c .before .before .before .before .before .before .before .known .ensures .0) (c .before .before .before .before .before .before .if1 .left)) in
     let g = c .before .before .before .before .before .before .before .known .ensures .1 h in
     uses-quick (c .before .before .before .before .before .before .before .before .args .cart .now) h g (c .before .before .before .before .before .before .before .before .args .answer .now) (c .bit .ensures ∙ ap bit (c .before .uses-eeprom .ensures ∙ ap usesEeprom (c .before .before .kind-of .ensures)))
 
