@@ -50,8 +50,9 @@ fn write_flash(cart: &mut [u8], memory: &mut [u8], address: u32, value: u8)
     let store = t.store;
     let next = t.flash;
     let dirty = dirty_behind(store, cart[5] == 1);
-    apply(store, memory);
+    // the record first: an erase then keeps nothing for afterwards
     put_flash(cart, dirty, next);
+    apply(store, memory);
 }
 
 // A byte of a flash kind's memory, which is to have that size, or question 3; the next two are of Sram and of the EEPROM kinds.

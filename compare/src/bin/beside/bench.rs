@@ -2,6 +2,7 @@
 
 mod bytes;
 mod calls;
+mod placed;
 
 use std::hint::black_box;
 use std::sync::OnceLock;

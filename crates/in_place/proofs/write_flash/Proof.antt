@@ -12,9 +12,9 @@ use Rattle.in_place.proofs.write_flash.Tie as tie
 
 apply-requires : tie.Need-apply-requires
 apply-requires c κs =
-    let a = c .before .before .before .before .before .before .before .before .before .args in
+    let a = c .before .before .before .before .before .before .before .before .before .before .before .before .before .args in
     let n = length (a .memory .now) in
-    subst (λ (t : FlashStep). Fits (t .store) n) (sym (c .before .before .before .before .flash-write .ensures)) (flash-fits (c .before .before .before .before .before .flash-in .result) n (a .address) (a .value) (c .before .before .before .before .before .before .before .before .before .pre .2) (c .before .before .before .before .before .before .before .before .before .pre .3))
+    subst (λ (t : FlashStep). Fits (t .store) n) (sym (c .before .before .before .before .before .before .before .before .flash-write .ensures)) (flash-fits (c .before .before .before .before .before .before .before .before .before .flash-in .result) n (a .address) (a .value) (c .before .before .before .before .before .before .before .before .before .before .before .before .before .pre .2) (c .before .before .before .before .before .before .before .before .before .before .before .before .before .pre .3))
 
 returns : tie.Need-returns
 unfolding cartOf
@@ -22,7 +22,7 @@ returns c =
     let a = c .before .before .before .before .before .before .before .before .before .before .before .before .before .before .before .before .args in
     flash-left (a .cart .now) (a .memory .now) (a .address) (a .value) (c .before .before .before .before .before .before .before .before .before .before .before .before .flash-in .result) (c .before .before .before .before .before .before .before .before .before .before .before .flash-write .result) (c .before .before .before .before .before .before .before .before .dirty-behind .result)
     (back (a .cart .now) (λ i. omega (arith, c .before .before .before .before .before .before .before .before .before .before .before .before .before .before .before .slice-known .given i)) (c .before .before .before .before .before .before .before .before .before .before .before .before .before .before .before .before .pre .1))
-    (c .before .before .before .before .before .before .before .before .before .before .before .before .flash-in .ensures) (c .before .before .before .before .before .before .before .before .before .before .before .flash-write .ensures) (c .before .before .before .before .before .before .before .before .dirty-behind .ensures) (c .before .before .put-flash .ensures) (c .before .before .before .before .before .before .apply .ensures)
+    (c .before .before .before .before .before .before .before .before .before .before .before .before .flash-in .ensures) (c .before .before .before .before .before .before .before .before .before .before .before .flash-write .ensures) (c .before .before .before .before .before .before .before .before .dirty-behind .ensures) (c .before .before .before .before .before .before .put-flash .ensures) (c .before .before .apply .ensures)
 
 pub write-flash-spec : {M : Type 1} → statement M
 write-flash-spec =
@@ -32,8 +32,8 @@ write-flash-spec =
     (λ c κs. search needs)
     (λ c. search needs)
     (λ c κs. search needs)
-    apply-requires
     (λ c κs. search needs)
+    apply-requires
     (λ c. search needs)
     (λ c. search needs)
     returns)

@@ -1,5 +1,6 @@
 //! Time per image, file and erase.
 
+use super::placed::at_lines;
 use super::{row, used};
 use crate::part::Part;
 use crate::part_image;
@@ -38,8 +39,7 @@ fn images() {
     row("CRC, 32 MiB", 1, || used(original::crc32(&image)), || used(part_image::rom_crc(&image)));
 }
 
-/// Cartridges of one side that take turns. Where a memory lies moves the time of a copy by some hundredths; opened alternately, the sides' memories
-/// lie alike on the whole.
+/// Cartridges of one side that take turns: in which pages a memory lies moves the time of a copy by some hundredths.
 struct Turns<T> {
     all: Vec<T>,
     calls: usize,
@@ -72,8 +72,8 @@ fn files() {
         let file = file(length, 3);
         let (mut carts, mut parts) = (Turns::new(), Turns::new());
         for _ in 0..Turns::<Part>::CARTRIDGES {
-            let mut cart = original::open(&image).expect("an image of an allowed length");
-            let (_, mut part) = Part::open(&image, MEMORY[usize::from(kind)]);
+            let mut cart = at_lines(|| original::open(&image)).expect("an image of an allowed length");
+            let (_, mut part) = at_lines(|| Part::open(&image, MEMORY[usize::from(kind)]));
             original::load_save(&mut cart, &file);
             part.load_save(&file);
             assert_eq!(original::save_data(&cart).as_ref(), Some(&file));
@@ -85,7 +85,7 @@ fn files() {
             &format!("load, {name}, {length} bytes"),
             1,
             || original::load_save(carts.next(), black_box(&file)),
-            || used(parts.next().load_save(black_box(&file))),
+            || used(parts.next().load_save(black_box(&file)).refusal),
         );
         row(
             &format!("export, {name}, {length} bytes"),
