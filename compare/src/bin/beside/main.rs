@@ -64,7 +64,7 @@ fn cartridges(run: &mut Run, kind: kind::Kind) {
     let before = (run.calls, run.seconds());
     run.at(format!("{name}, opening"));
     let pair = &mut Pair::open(&of_kind(kind), run);
-    exhaustive::files::compare(pair);
+    on_a_small_stack(|| exhaustive::files::compare(pair));
     exhaustive::records::compare(pair);
     if kind::is_flash(kind) {
         exhaustive::flash::compare(pair);
@@ -75,4 +75,13 @@ fn cartridges(run: &mut Run, kind: kind::Kind) {
     random_lists::compare(pair);
     run.clear_line();
     println!("beside: {name}, {} calls, {:.1} s", run.calls - before.0, run.seconds() - before.1);
+}
+
+/// The header says that a call takes a few KiB of stack. The calls on files are those that could take more: they copy by way of an array, which the compiler
+/// is to leave out.
+fn on_a_small_stack(calls: impl FnOnce() + Send) {
+    std::thread::scope(|scope| {
+        let thread = std::thread::Builder::new().stack_size(32 << 10).spawn_scoped(scope, calls);
+        thread.expect("a thread").join().expect("calls that end")
+    });
 }
