@@ -1,13 +1,13 @@
 -- `load_save`, made on the bytes as they are lent. Assumes nothing.
 use mathlib.Core.Path.{_≡_, refl, sym, ap, _∙_}
 use mathlib.Core.Logic.{_≢_}
-use mathlib.Core.Bool.{Bool, true, _||_, _&&_}
+use mathlib.Core.Bool.{Bool, true, false, _||_, _&&_}
 use mathlib.Core.List.{List, []}
-use Prim.Native.Nat.{ℕ}
+use Prim.Native.Nat.{ℕ, _≤_}
 use native.Mathlib.Omega.{arith}
 use lib.Dec.{ltb, eqb}
 use lib.ListN.{length, getD, set}
-use borrow.Author.Tests.{eq-eqb, ne-eqb}
+use borrow.Author.Tests.{eq-eqb, ne-eqb, le-ltb}
 use Rattle.memory.specs.Memory.{filled}
 use Rattle.kind.specs.Kind.{memorySize, usesEeprom}
 use Rattle.abi_places.specs.Places.{kindOf}
@@ -18,7 +18,11 @@ use Rattle.cart.proofs.Replies.{step-no, step-yes}
 use Rattle.file_calls.proofs.Exports.{loaded}
 use Rattle.abi_record.specs.RecordBytes.{recordBytes, cartOf, isRecord, stateOf, bytesOf}
 use Rattle.abi_record.specs.Abi.{called}
-use Rattle.abi_files.proofs.Large.{large-read, large-put}
+use Rattle.abi_files.proofs.Large.{large-read, large-le, large-stays, large-put}
+
+none : (b : Bool) → b && false ≡ false
+none true = refl
+none false = refl
 
 -- what a load leaves: of the record another `large` alone
 pub loaded-bytes : (r m f : List ℕ) (large : Bool) {r' m' : List ℕ} → recordBytes (cartOf r) ≡ r → length m ≡ memorySize (kindOf (getD r 4 0))
@@ -47,3 +51,7 @@ module _ (r : List ℕ) (h : isRecord r ≡ true) (g : (recordAllowed (cartOf r)
   load-done n e =
       rw (h, step-yes (loadSave f) [] (stateOf r m) 0 (rw (g .0, eq-eqb (length m) (memorySize (kindOf (getD r 4 0))) n)) refl)
       (λ i. (0, e i .0, e i .1))
+
+  -- a short file, which leaves the record
+  pub short-done : length m ≡ memorySize (kindOf (getD r 4 0)) → length f ≤ 512 → {m' : List ℕ} → m' ≡ filled (length m) f → (0, r, m') ≡ called (step (loadSave f) []) r m
+  short-done n k e = load-done n (loaded-bytes r m f _ (g .1) n refl (large-stays r _ (large-le r (g .1)) (rw (le-ltb 512 (length f) k) (none (usesEeprom (kindOf (getD r 4 0)))))) e)

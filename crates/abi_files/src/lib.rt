@@ -1,21 +1,24 @@
 // `load_save`, `save_data` and import on the 24 bytes of a record as they are lent.
 use abi_places::kind_of;
 use abi_record::is_record;
-use cart::bit;
 use file_bytes::copy_file;
 use file_calls::file_length;
-use file_calls::large_behind;
 use files::kept_part;
 use files::takes;
 use kind::memory_size;
+use kind::uses_eeprom;
+use usual_record::fresh_usual;
 use usual_record::known;
 use usual_record::serial_usual;
 ghost use mathlib.Core.Path.{_≡_};
-ghost use mathlib.Core.Bool.{true};
+ghost use mathlib.Core.Bool.{true, _||_, _&&_};
 ghost use mathlib.Core.List.{[]};
-ghost use lib.ListN.{length, getD};
+ghost use Prim.Native.Nat.{_≤_};
+ghost use lib.Dec.{eqb, ltb};
+ghost use lib.ListN.{length, getD, set};
 ghost use Rattle.abi_places.specs.Places.{kindOf};
-ghost use Rattle.kind.specs.Kind.{memorySize};
+ghost use Rattle.kind.specs.Kind.{memorySize, usesEeprom};
+ghost use Rattle.cart.specs.ChipState.{bit};
 ghost use Rattle.cart.specs.Record.{recordAllowed};
 ghost use Rattle.cart.specs.Calls.{load as load·spec, loadSave, importSave, step};
 ghost use Rattle.abi_record.specs.RecordBytes.{recordBytes, cartOf, isRecord, stateOf, bytesOf};
@@ -35,26 +38,62 @@ fn stands(cart: &[u8; 24]) -> bool
     is_record(cart)
 }
 
-// A file loaded, questions 2 and 3 answered yes: of the record only `large` may change.
-fn load_in_place(cart: &mut [u8], memory: &mut [u8], file: &[u8])
-    requires { ⌜ (length (now cart) ≡ 24) × (isRecord (now cart) ≡ true) × (length (now memory) ≡ memorySize (kindOf (getD (now cart) 4 0))) ⌝ }
-    ensures { λ _. ⌜ (now (cart .exit), now (memory .exit)) ≡ bytesOf (load·spec (stateOf (now (cart .entry)) (now (memory .entry))) (now (file .entry))) ⌝ }
+// `large` behind a file of n bytes. Where it stays nothing is stored: the next call's test, which reads wider, would wait for it.
+fn grow(cart: &mut [u8], n: usize)
+    requires { ⌜ (length (now cart) ≡ 24) × (getD (now cart) 10 0 ≤ 1) ⌝ }
+    ensures { λ _. ⌜ now (cart .exit) ≡ set (now (cart .entry)) 10 (bit (eqb (getD (now (cart .entry)) 10 0) 1 || usesEeprom (kindOf (getD (now (cart .entry)) 4 0)) && ltb 512 n)) ⌝ }
 {
-    let large = large_behind(cart[10] == 1, kind_of(cart[4]), file.len());
-    file_bytes::load(memory, file);
-    cart[10] = bit(large);
+    if !uses_eeprom(kind_of(cart[4])) {
+        return;
+    }
+    if n <= 512 {
+        return;
+    }
+    if cart[10] == 1 {
+        return;
+    }
+    cart[10] = 1;
 }
 
-pub fn load_save(cart: &mut [u8; 24], memory: &mut [u8], file: &[u8]) -> u32
+// A file loaded, questions 2 and 3 answered yes: of the record only `large` may change.
+fn load_in_place(cart: &mut [u8], memory: &mut [u8], file: &[u8])
+    requires { ⌜ (length (now cart) ≡ 24) × (recordBytes (cartOf (now cart)) ≡ now cart) × (length (now memory) ≡ memorySize (kindOf (getD (now cart) 4 0))) ⌝ }
+    ensures { λ _. ⌜ (now (cart .exit), now (memory .exit)) ≡ bytesOf (load·spec (stateOf (now (cart .entry)) (now (memory .entry))) (now (file .entry))) ⌝ }
+{
+    file_bytes::load(memory, file);
+    grow(cart, file.len());
+}
+
+fn load_any(cart: &mut [u8; 24], memory: &mut [u8], file: &[u8]) -> u32
     ensures { λ x. ⌜ (x, now (cart .exit), now (memory .exit)) ≡ called (step (loadSave (now (file .entry))) []) (now (cart .entry)) (now (memory .entry)) ⌝ }
 {
-    if !stands(cart) {
+    if !is_record(cart) {
         return 2;
     }
     if memory.len() != memory_size(kind_of(cart[4])) {
         return 3;
     }
     load_in_place(&mut cart[..], memory, file);
+    0
+}
+
+// A short file leaves the record as it was, and is soon loaded: of a usual record the questions are asked quickly.
+pub fn load_save(cart: &mut [u8; 24], memory: &mut [u8], file: &[u8]) -> u32
+    ensures { λ x. ⌜ (x, now (cart .exit), now (memory .exit)) ≡ called (step (loadSave (now (file .entry))) []) (now (cart .entry)) (now (memory .entry)) ⌝ }
+{
+    if 512 < file.len() {
+        return load_any(cart, memory, file);
+    }
+    if !known(cart) {
+        return load_any(cart, memory, file);
+    }
+    if !fresh_usual(cart) {
+        return load_any(cart, memory, file);
+    }
+    if memory.len() != memory_size(kind_of(cart[4])) {
+        return 3;
+    }
+    file_bytes::load(memory, file);
     0
 }
 

@@ -12,7 +12,6 @@ use Rattle.lists.specs.Questions.{asked}
 use Rattle.lists.proofs.Bools.{cases}
 use Rattle.lists.proofs.Parts.{rest, front-of}
 use Rattle.kind.specs.declared.SaveType.{SaveType}
-use Rattle.kind.specs.declared.SaveType.the-variants.{None, Sram, Flash64, Flash128, Eeprom512, Eeprom8k}
 use Rattle.kind.specs.Kind.{memorySize}
 use Rattle.frames.specs.declared.FirstLine.{FirstLine}
 use Rattle.frames.specs.declared.FirstLine.the-variants.{Fresh}
@@ -30,14 +29,6 @@ use Rattle.cut_lines.proofs.Texts.{first-line, none-behind}
 use Rattle.cut_lines.proofs.Codes.{put-code}
 use Rattle.cut_lines.proofs.Places.{list-room}
 use Rattle.cut_lines.proofs.Answers.{Shows, shows, shown-behind}
-
-pub size-small : (kind : SaveType) → memorySize kind ≤ 131072
-size-small None = omega arith
-size-small Sram = omega arith
-size-small Flash64 = omega arith
-size-small Flash128 = omega arith
-size-small Eeprom512 = omega arith
-size-small Eeprom8k = omega arith
 
 -- the list behind what it begins with
 pub list-put : (front room₀ room : List ℕ) {p : ℕ} (o code : List ℕ) (u : ℕ) → Shows front p room room₀ → p ≤ length room → u ≤ length o → take u o ≡ code

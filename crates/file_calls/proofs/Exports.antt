@@ -12,6 +12,7 @@ use Rattle.lists.specs.Lists.{into}
 use Rattle.memory.specs.Memory.{filled}
 use Rattle.kind.specs.declared.SaveType.{SaveType}
 use Rattle.kind.specs.declared.SaveType.the-variants.{None, Sram, Flash64, Flash128, Eeprom512, Eeprom8k}
+use Rattle.kind.proofs.Sizes.{memory-small}
 use Rattle.kind.specs.Kind.{memorySize, usesEeprom}
 use Rattle.eeprom.specs.Eeprom.{told}
 use Rattle.cart.specs.declared.Cartridge.{Cartridge}
@@ -35,12 +36,7 @@ length-fits Eeprom512 large = eeprom-le large
 length-fits Eeprom8k large = eeprom-le large
 
 pub length-small : (kind : SaveType) (large : Bool) → fileLength kind large ≤ 131072
-length-small None large = omega arith
-length-small Sram large = omega arith
-length-small Flash64 large = omega arith
-length-small Flash128 large = omega arith
-length-small Eeprom512 large = omega (arith, eeprom-le large)
-length-small Eeprom8k large = omega (arith, eeprom-le large)
+length-small kind large = omega (arith, length-fits kind large, memory-small kind)
 
 module _ (s : State) (d : List ℕ) where
   -- question 13

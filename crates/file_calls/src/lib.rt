@@ -21,7 +21,7 @@ ghost use Rattle.cart.specs.Replies.{state, replied, exportReplied};
 ghost use Rattle.file_calls.specs.Files.{eepromLength, fileLength};
 
 // Whether the chip is large behind a file of n bytes.
-pub fn large_behind(large: bool, kind: SaveType, n: usize) -> bool
+fn large_behind(large: bool, kind: SaveType, n: usize) -> bool
     ensures { λ r. ⌜ r ≡ (large || usesEeprom kind && ltb 512 n) ⌝ }
 {
     if large {

@@ -92,7 +92,7 @@ rests-record r n f h s =
       flag = f;
       flash = h;
       width = rw (s .width) refl;
-      large = omega (arith, s .large);
+      large = s .large;
       block = omega (arith, s .block);
       place = omega (arith, s .place);
     })

@@ -19,9 +19,10 @@ pub record FlashUsual (r : List ℕ) : Type 0 where
   pub bank : getD r 7 0 ≤ 1
   pub id : getD r 8 0 ≤ 1
 
+-- no width told, and no command begun
 pub record SerialRests (r : List ℕ) : Type 0 where
   pub width : getD r 9 0 ≡ 0
-  pub large : getD r 10 0 ≡ 0
+  pub large : getD r 10 0 ≤ 1
   pub phase : getD r 11 0 ≡ 0
   pub count : getD r 12 0 ≡ 0
   pub block : getD r 13 0 + 256 * getD r 14 0 ≡ 0

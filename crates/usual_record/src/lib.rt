@@ -127,6 +127,32 @@ pub fn write_usual(r: &[u8; 24]) -> bool
     write_usual_in(&r[..])
 }
 
+fn fresh_usual_in(bytes: &[u8]) -> bool
+    requires { ⌜ length (now bytes) ≡ 24 ⌝ }
+    ensures { λ b. ⌜ (b ≡ true → isKnown (now (bytes .entry)) ≡ true → isRecord (now (bytes .entry)) ≡ true) ⌝ }
+{
+    if 1 < bytes[5] {
+        return false;
+    }
+    // the flash chip, and no width told
+    if low32(bytes[6], bytes[7], bytes[8], bytes[9]) != 0 {
+        return false;
+    }
+    // large, and the rest of the serial chip
+    low64(
+        low32(bytes[10], bytes[11], bytes[12], bytes[13]),
+        low32(bytes[14], bytes[15], bytes[16], bytes[17]),
+    )
+        < 2
+}
+
+// For a load: both chips as opening leaves them.
+pub fn fresh_usual(r: &[u8; 24]) -> bool
+    ensures { λ b. ⌜ (b ≡ true → isKnown (now (r .entry)) ≡ true → isRecord (now (r .entry)) ≡ true) ⌝ }
+{
+    fresh_usual_in(&r[..])
+}
+
 fn fields_usual_in(bytes: &[u8]) -> bool
     requires { ⌜ length (now bytes) ≡ 24 ⌝ }
     ensures { λ b. ⌜ (b ≡ true → FieldsUsual (now (bytes .entry))) ⌝ }

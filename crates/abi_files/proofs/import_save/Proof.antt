@@ -32,7 +32,7 @@ returns-3 c =
     no-fit (a .cart .now) h (c .before .before .before .before .before .before .before .stands .ensures .1 h) (a .memory .now) (a .file .now) (a .kept .now) (omega (arith, c .before .before .if2 .left, c .before .before .before .memory-size .ensures, ap memorySize k)) t
 
 load-in-place-requires : tie.Need-load-in-place-requires
-load-in-place-requires c κs = (search needs, granted _ (c .before .before .before .before .before .before .before .before .before .before .stands .ensures .0) (c .before .before .before .before .before .before .before .before .before .if1 .left), omega (arith, c .before .before .before .before .before .if2 .left, c .before .before .before .before .before .before .memory-size .ensures, ap memorySize (c .before .before .before .before .before .before .before .kind-of .ensures)))
+load-in-place-requires c κs = (search needs, c .before .before .before .before .before .before .before .before .before .before .stands .ensures .1 (granted _ (c .before .before .before .before .before .before .before .before .before .before .stands .ensures .0) (c .before .before .before .before .before .before .before .before .before .if1 .left)) .1, omega (arith, c .before .before .before .before .before .if2 .left, c .before .before .before .before .before .before .memory-size .ensures, ap memorySize (c .before .before .before .before .before .before .before .kind-of .ensures)))
 
 cast-kept : tie.Need-cast-kept
 cast-kept c = omega (arith, ap length (c .before .before .before .before .before .kept-part .ensures), kept-most (c .before .before .before .before .before .before .before .before .before .before .kind-of .result) (c .before .before .before .before .before .before .before .before .before .before .before .before .before .before .before .before .before .args .file .now))

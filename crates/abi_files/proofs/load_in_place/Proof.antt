@@ -1,37 +1,26 @@
 -- `abi_files::load_in_place` meets its contract. Assumes nothing.
-use mathlib.Core.Path.{ap, _∙_}
-use mathlib.Core.Bool.{_||_, _&&_}
-use Prim.Native.Nat.{ℕ}
+use mathlib.Core.Path.{refl}
 use native.Mathlib.Omega.{arith}
-use lib.Dec.{ltb, eqb}
-use lib.ListN.{length, getD, set}
-use Rattle.kind.specs.declared.SaveType.{SaveType}
-use Rattle.kind.specs.Kind.{usesEeprom}
-use Rattle.abi_record.proofs.RecordBytes.{good-record}
+use lib.ListN.{getD}
+use Rattle.kind.proofs.Sizes.{memory-small}
+use Rattle.abi_places.specs.Places.{kindOf}
+use Rattle.abi_files.proofs.Large.{large-le}
 use Rattle.abi_files.proofs.Loads.{loaded-bytes}
 use borrow.Author.Needs.{needs}
 use Rattle.abi_files.proofs.load_in_place.Statement.{statement}
 use Rattle.abi_files.proofs.load_in_place.Tie as tie
 
+load-requires : tie.Need-load-requires
+load-requires c κs = omega (arith, c .before .before .before .before .pre .2, memory-small (kindOf (getD (c .before .before .before .before .args .cart .now) 4 0)))
+
+grow-requires : tie.Need-grow-requires
+grow-requires c κs = (c .before .before .before .before .before .before .before .before .pre .0, large-le (c .before .before .before .before .before .before .before .before .args .cart .now) (c .before .before .before .before .before .before .before .before .pre .1))
+
 returns : tie.Need-returns
 returns c =
-    let a = c .before .before .before .before .before .before .before .before .before .before .before .before .args in
-    let r = a .cart .now in
-    let g = good-record r (λ i. omega (arith, c .before .before .before .before .before .before .before .before .before .before .before .slice-known .given i)) (c .before .before .before .before .before .before .before .before .before .before .before .before .pre .1) in
-    let l = c .before .before .before .before .before .large-behind .ensures ∙ ap (λ (k : SaveType). eqb (getD r 10 0) 1 || usesEeprom k && ltb 512 (length (a .file .now))) (c .before .before .before .before .before .before .kind-of .ensures) in
-    loaded-bytes r (a .memory .now) (a .file .now) (c .before .before .before .before .before .large-behind .result) (g .1) (c .before .before .before .before .before .before .before .before .before .before .before .before .pre .2) l (ap (λ (n : ℕ). set r 10 n) (c .bit .ensures)) (c .before .before .before .load .ensures)
+    let a = c .before .before .before .before .before .before .before .before .before .before .before .args in
+    let p = c .before .before .before .before .before .before .before .before .before .before .before .pre in
+    loaded-bytes (a .cart .now) (a .memory .now) (a .file .now) _ (p .1) (p .2) refl (c .before .before .grow .ensures) (c .before .before .before .before .before .before .load .ensures)
 
 pub load-in-place-spec : {M : Type 1} → statement M
-load-in-place-spec =
-    tie.close
-    (tie.spec
-    (λ c. search needs)
-    (λ c. search needs)
-    (λ c κs. search needs)
-    (λ c κs. search needs)
-    (λ c κs. search needs)
-    (λ c κs. search needs)
-    (λ c. search needs)
-    (λ c. search needs)
-    (λ c. search needs)
-    returns)
+load-in-place-spec = tie.close (tie.spec load-requires grow-requires (λ c. search needs) (λ c. search needs) returns)

@@ -40,7 +40,10 @@ slice-aggregate-copy-file c =
 copy-file-requires : tie.Need-copy-file-requires
 copy-file-requires c κs =
     let a = c .before .before .before .before .before .before .before .before .before .before .before .before .before .args in
-    omega (arith, c .before .before .if3 .left, file-size (c .before .before .before .before .before .before .before .kind-of .result) (eqb (getD (a .cart .now) 10 0) 1) (a .memory .now) (c .before .before .before .file-length .result) (c .before .before .before .file-length .ensures) (omega (arith, c .before .before .before .before .before .if2 .left, c .before .before .before .before .before .before .memory-size .ensures)))
+    let kind = c .before .before .before .before .before .before .before .kind-of .result in
+    let large = eqb (getD (a .cart .now) 10 0) 1 in
+    let l = file-size kind large (a .memory .now) (c .before .before .before .file-length .result) (c .before .before .before .file-length .ensures) (omega (arith, c .before .before .before .before .before .if2 .left, c .before .before .before .before .before .before .memory-size .ensures)) in
+    (omega (arith, c .before .before .if3 .left, l), omega (arith, l, c .before .before .before .file-length .ensures, length-small kind large))
 
 cast-length : tie.Need-cast-length
 cast-length c = omega (arith, c .before .before .before .before .before .before .file-length .ensures, length-small (c .before .before .before .before .before .before .before .before .before .before .kind-of .result) (eqb (getD (c .before .before .before .before .before .before .before .before .before .before .before .before .before .before .before .before .args .cart .now) 10 0) 1))

@@ -1,11 +1,16 @@
 -- `file_calls::load` meets its contract. Assumes nothing.
 use mathlib.Core.Path.{ap, _∙_}
+use native.Mathlib.Omega.{arith}
+use Rattle.kind.proofs.Sizes.{memory-small}
 use Rattle.eeprom.specs.declared.Eeprom.{Eeprom}
 use Rattle.cart.specs.Replies.{chipRecord, cartWith}
 use Rattle.file_calls.proofs.Exports.{loaded}
 use borrow.Author.Needs.{needs}
 use Rattle.file_calls.proofs.load.Statement.{statement}
 use Rattle.file_calls.proofs.load.Tie as tie
+
+load-requires : tie.Need-load-requires
+load-requires c κs = omega (arith, c .before .before .before .before .before .pre, memory-small (c .before .before .before .before .before .args .cart .kind))
 
 returns : tie.Need-returns
 returns c =
@@ -17,7 +22,7 @@ pub load-spec : {M : Type 1} → statement M
 load-spec =
     tie.close
     (tie.spec
-    (λ c κs. search needs)
+    load-requires
     (λ c κs. search needs)
     (λ c κs. search needs)
     (λ c κs. search needs)

@@ -49,7 +49,8 @@ copy-requires : tie.Need-copy-file-requires
 copy-requires c κs =
     let a = c .before .before .before .before .before .before .before .before .before .before .args in
     let y = door-yes (a .cart) (length (a .memory .now)) (c .before .before .before .before .before .before .before .door .result) (c .before .before .before .before .before .before .before .door .ensures) (c .before .before .before .before .before .before .if1 .left) in
-    omega (arith, length-take-le (c .before .before .before .file-length .result) (a .memory .now) (omega (arith, c .before .before .before .file-length .ensures, y .1, length-fits (a .cart .kind) (a .cart .chip .eeprom .large))), c .before .before .if2 .left)
+    let l = length-take-le (c .before .before .before .file-length .result) (a .memory .now) (omega (arith, c .before .before .before .file-length .ensures, y .1, length-fits (a .cart .kind) (a .cart .chip .eeprom .large))) in
+    (omega (arith, l, c .before .before .if2 .left), omega (arith, l, c .before .before .before .file-length .ensures, length-small (a .cart .kind) (a .cart .chip .eeprom .large)))
 
 cast-done : tie.Need-cast-done
 cast-done c = let a = c .before .before .before .before .before .before .before .before .before .before .before .before .before .args in omega (arith, c .before .before .before .before .before .before .file-length .ensures, length-small (a .cart .kind) (a .cart .chip .eeprom .large))

@@ -3,7 +3,6 @@ use Prim.Native.Nat.{_≤_}
 use native.Mathlib.Omega.{arith}
 use borrow.Author.Tests.{leb-true}
 use Rattle.usual_record.proofs.QuickTests.{never, flash-zero, rests-record}
--- `usual_record::read_usual_in` meets its contract. Assumes nothing.
 use borrow.Author.Needs.{needs}
 use Rattle.usual_record.proofs.read_usual_in.Statement.{statement}
 use Rattle.usual_record.proofs.read_usual_in.Tie as tie

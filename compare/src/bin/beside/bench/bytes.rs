@@ -42,20 +42,22 @@ fn images() {
 /// Cartridges of one side that take turns: in which pages a memory lies moves the time of a copy by some hundredths.
 struct Turns<T> {
     all: Vec<T>,
-    calls: usize,
+    turn: usize,
 }
 
 impl<T> Turns<T> {
     const CARTRIDGES: usize = 5;
-    const CALLS: usize = 16;
+    /// Calls in one turn.
+    const CALLS: u32 = 16;
 
     fn new() -> Self {
-        Self { all: Vec::new(), calls: 0 }
+        Self { all: Vec::new(), turn: 0 }
     }
 
-    fn next(&mut self) -> &mut T {
-        self.calls += 1;
-        &mut self.all[self.calls / Self::CALLS % Self::CARTRIDGES]
+    fn each(&mut self, mut call: impl FnMut(&mut T)) {
+        self.turn = (self.turn + 1) % Self::CARTRIDGES;
+        let cartridge = &mut self.all[self.turn];
+        (0..Self::CALLS).for_each(|_| call(black_box(cartridge)));
     }
 }
 
@@ -83,15 +85,15 @@ fn files() {
         }
         row(
             &format!("load, {name}, {length} bytes"),
-            1,
-            || original::load_save(carts.next(), black_box(&file)),
-            || used(parts.next().load_save(black_box(&file)).refusal),
+            Turns::<Part>::CALLS,
+            || carts.each(|cart| original::load_save(cart, black_box(&file))),
+            || parts.each(|part| used(part.load_save(black_box(&file)).refusal)),
         );
         row(
             &format!("export, {name}, {length} bytes"),
-            1,
-            || used(original::save_data(carts.next())),
-            || used(parts.next().save_file(black_box(file.len()))),
+            Turns::<Part>::CALLS,
+            || carts.each(|cart| used(original::save_data(cart))),
+            || parts.each(|part| used(part.save_file(black_box(file.len())))),
         );
     }
 }

@@ -3,8 +3,9 @@ use mathlib.Core.List.{[]}
 use native.Mathlib.Omega.{arith}
 use lib.Seq.{length-take-le}
 use Rattle.trace.specs.Trace.{linesFrom}
+use Rattle.kind.proofs.Sizes.{memory-small}
 use Rattle.cut_lines.proofs.Answers.{shows}
-use Rattle.cut_lines.proofs.Traces.{size-small, text-refused, text-accepted, answers-held}
+use Rattle.cut_lines.proofs.Traces.{text-refused, text-accepted, answers-held}
 use borrow.Author.Needs.{needs}
 use Rattle.cut_lines.proofs.whole.play_lines.Statement.{statement}
 use Rattle.cut_lines.proofs.whole.play_lines.Tie as tie
@@ -31,16 +32,16 @@ slice-aggregate-gbasave-replay-2 : tie.Need-slice-aggregate-gbasave-replay-2
 slice-aggregate-gbasave-replay-2 c = sym (length-take-le (c .before .before .before .before .before .put-list .result) (c .before .before .before .before .before .put-list .last .1 .1 .0) (c .before .before .before .before .before .put-list .ensures .1))
 
 slice-relend-prefix-gbasave-replay : tie.Need-slice-relend-prefix-gbasave-replay
-slice-relend-prefix-gbasave-replay c = omega (arith, c .before .before .memory-size .ensures, size-small (c .before .before .before .before .before .before .before .before .before .before .before .before .before .before .before .before .args .kind), c .before .before .before .before .before .before .before .before .before .before .before .before .before .before .before .before .pre .1 .1 .0)
+slice-relend-prefix-gbasave-replay c = omega (arith, c .before .before .memory-size .ensures, memory-small (c .before .before .before .before .before .before .before .before .before .before .before .before .before .before .before .before .args .kind), c .before .before .before .before .before .before .before .before .before .before .before .before .before .before .before .before .pre .1 .1 .0)
 
 slice-aggregate-gbasave-replay-3 : tie.Need-slice-aggregate-gbasave-replay-3
-slice-aggregate-gbasave-replay-3 c = sym (length-take-le (c .before .before .before .memory-size .result) (c .before .before .before .before .before .before .before .before .before .before .before .before .before .before .before .before .before .args .memory .now) (omega (arith, c .before .before .before .memory-size .ensures, size-small (c .before .before .before .before .before .before .before .before .before .before .before .before .before .before .before .before .before .args .kind), c .before .before .before .before .before .before .before .before .before .before .before .before .before .before .before .before .before .pre .1 .1 .0)))
+slice-aggregate-gbasave-replay-3 c = sym (length-take-le (c .before .before .before .memory-size .result) (c .before .before .before .before .before .before .before .before .before .before .before .before .before .before .before .before .before .args .memory .now) (omega (arith, c .before .before .before .memory-size .ensures, memory-small (c .before .before .before .before .before .before .before .before .before .before .before .before .before .before .before .before .before .args .kind), c .before .before .before .before .before .before .before .before .before .before .before .before .before .before .before .before .before .pre .1 .1 .0)))
 
 slice-relend-prefix-gbasave-replay-2 : tie.Need-slice-relend-prefix-gbasave-replay-2
-slice-relend-prefix-gbasave-replay-2 c = omega (arith, c .before .before .before .memory-size .ensures, size-small (c .before .before .before .before .before .before .before .before .before .before .before .before .before .before .before .before .before .args .kind), c .before .before .before .before .before .before .before .before .before .before .before .before .before .before .before .before .before .pre .1 .1 .1 .0)
+slice-relend-prefix-gbasave-replay-2 c = omega (arith, c .before .before .before .memory-size .ensures, memory-small (c .before .before .before .before .before .before .before .before .before .before .before .before .before .before .before .before .before .args .kind), c .before .before .before .before .before .before .before .before .before .before .before .before .before .before .before .before .before .pre .1 .1 .1 .0)
 
 slice-aggregate-gbasave-replay-4 : tie.Need-slice-aggregate-gbasave-replay-4
-slice-aggregate-gbasave-replay-4 c = sym (length-take-le (c .before .before .before .before .memory-size .result) (c .before .before .before .before .before .before .before .before .before .before .before .before .before .before .before .before .before .before .args .scratch .now) (omega (arith, c .before .before .before .before .memory-size .ensures, size-small (c .before .before .before .before .before .before .before .before .before .before .before .before .before .before .before .before .before .before .args .kind), c .before .before .before .before .before .before .before .before .before .before .before .before .before .before .before .before .before .before .pre .1 .1 .1 .0)))
+slice-aggregate-gbasave-replay-4 c = sym (length-take-le (c .before .before .before .before .memory-size .result) (c .before .before .before .before .before .before .before .before .before .before .before .before .before .before .before .before .before .before .args .scratch .now) (omega (arith, c .before .before .before .before .memory-size .ensures, memory-small (c .before .before .before .before .before .before .before .before .before .before .before .before .before .before .before .before .before .before .args .kind), c .before .before .before .before .before .before .before .before .before .before .before .before .before .before .before .before .before .before .pre .1 .1 .1 .0)))
 
 gbasave-replay-requires : tie.Need-gbasave-replay-requires
 gbasave-replay-requires c κs = search needs
@@ -75,7 +76,7 @@ returns c = let a = c .before .before .before .before .before .before .before .b
 
 print-all-requires : tie.Need-print-all-requires
 print-all-requires c κs = let a = c .before .before .before .before .before .before .before .before .before .before .before .before .before .before .before .before .before .before .before .before .before .before .before .before .before .before .before .before .before .before .args in let p = c .before .before .before .before .before .before .before .before .before .before .before .before .before .before .before .before .before .before .before .before .before .before .before .before .before .before .before .before .before .before .pre in
-    (p .0, (omega (arith, c .before .before .before .before .before .before .before .before .before .before .before .before .before .before .before .before .before .before .list .given, p .1 .0), (answers-held (a .kind) (linesFrom [] (a .text .now)) (a .memory .now) (a .scratch .now) (a .answers .now) _ _ (c .before .before .before .before .before .before .before .before .before .before .before .before .before .before .before .before .memory-size .result) (c .before .before .before .before .before .before .before .before .before .before .gbasave-replay .result) _ _ _ (c .before .before .before .before .before .before .before .before .before .before .before .before .before .before .before .before .before .before .before .before .before .before .put-image .ensures) (c .before .before .before .before .before .before .before .before .before .before .before .before .before .before .before .before .before .before .before .put-list .ensures .0) (c .before .before .before .before .before .before .before .before .before .before .before .before .before .before .before .before .memory-size .ensures) (c .before .before .before .before .before .before .before .before .before .before .gbasave-replay .ensures) (c .before .before .before .if1 .left) (c .before .before .before .before .before .answers .given) (omega (arith, size-small (a .kind), p .1 .1 .0)), omega (arith, c .before .before .before .before .before .answers .given, p .1 .1 .1 .1))))
+    (p .0, (omega (arith, c .before .before .before .before .before .before .before .before .before .before .before .before .before .before .before .before .before .before .list .given, p .1 .0), (answers-held (a .kind) (linesFrom [] (a .text .now)) (a .memory .now) (a .scratch .now) (a .answers .now) _ _ (c .before .before .before .before .before .before .before .before .before .before .before .before .before .before .before .before .memory-size .result) (c .before .before .before .before .before .before .before .before .before .before .gbasave-replay .result) _ _ _ (c .before .before .before .before .before .before .before .before .before .before .before .before .before .before .before .before .before .before .before .before .before .before .put-image .ensures) (c .before .before .before .before .before .before .before .before .before .before .before .before .before .before .before .before .before .before .before .put-list .ensures .0) (c .before .before .before .before .before .before .before .before .before .before .before .before .before .before .before .before .memory-size .ensures) (c .before .before .before .before .before .before .before .before .before .before .gbasave-replay .ensures) (c .before .before .before .if1 .left) (c .before .before .before .before .before .answers .given) (omega (arith, memory-small (a .kind), p .1 .1 .0)), omega (arith, c .before .before .before .before .before .answers .given, p .1 .1 .1 .1))))
 
 same-length-6 : tie.Need-same-length-6
 same-length-6 c = search needs

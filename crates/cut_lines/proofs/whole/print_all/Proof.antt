@@ -1,3 +1,4 @@
+use Rattle.kind.proofs.Sizes.{memory-small}
 use Rattle.cut_lines.specs.Printing.{linesText}
 use Rattle.trace.specs.Trace.{linesFrom}
 use lib.ListN.{length, take, drop}
@@ -8,7 +9,7 @@ use native.Mathlib.Omega.{arith}
 use Rattle.frames.proofs.Printed.{length-line}
 use Rattle.cut_lines.proofs.Texts.{part-long}
 use Rattle.cut_lines.proofs.Answers.{shows-fits}
-use Rattle.cut_lines.proofs.Traces.{size-small, all-shown}
+use Rattle.cut_lines.proofs.Traces.{all-shown}
 use borrow.Author.Needs.{needs}
 use Rattle.cut_lines.proofs.whole.print_all.Statement.{statement}
 use Rattle.cut_lines.proofs.whole.print_all.Tie as tie
@@ -45,7 +46,7 @@ part-print-lines-end-2 c = search needs
 
 print-lines-requires : tie.Need-print-lines-requires
 print-lines-requires c κs = let p = c .before .before .before .before .before .before .before .before .before .before .before .before .before .before .pre .1 in let a = part-long (c .before .before .before .before .before .before .before .before .before .before .before .before .before .before .args .answers .now) (c .before .before .before .before .before .before .before .before .before .prelude-room .result) in
-    (c .before .before .before .before .before .before .before .before .before .before .before .before .before .before .pre .0, (omega (arith, c .before .before .before .memory-size .ensures, size-small (c .before .before .before .before .before .before .before .before .before .before .before .before .before .before .args .kind)), (p .0, (omega (arith, a, c .before .before .before .before .before .before .before .before .before .prelude-room .ensures, c .before .before .before .memory-size .ensures, p .1 .0), omega (arith, a, part-long (c .before .before .before .before .before .before .print-line .last .0) (c .before .before .before .before .before .before .print-line .result), c .before .before .before .before .before .before .print-line .ensures .0, length-line 0 [], c .before .before .before .before .before .out .given, p .1 .1)))))
+    (c .before .before .before .before .before .before .before .before .before .before .before .before .before .before .pre .0, (omega (arith, c .before .before .before .memory-size .ensures, memory-small (c .before .before .before .before .before .before .before .before .before .before .before .before .before .before .args .kind)), (p .0, (omega (arith, a, c .before .before .before .before .before .before .before .before .before .prelude-room .ensures, c .before .before .before .memory-size .ensures, p .1 .0), omega (arith, a, part-long (c .before .before .before .before .before .before .print-line .last .0) (c .before .before .before .before .before .before .print-line .result), c .before .before .before .before .before .before .print-line .ensures .0, length-line 0 [], c .before .before .before .before .before .out .given, p .1 .1)))))
 
 add-result : tie.Need-add-result
 add-result c = let o = c .before .before .before .before .before .before .before .before .before .before .before .print-line in let part = take (length (o .last .0) - o .result) (drop (o .result) (o .last .0)) in
