@@ -73,6 +73,7 @@ fn load_any(cart: &mut [u8; 24], memory: &mut [u8], file: &[u8]) -> u32
     if memory.len() != memory_size(kind_of(cart[4])) {
         return 3;
     }
+    // cut anew, the file is handed over in registers
     load_in_place(&mut cart[..], memory, &file[..]);
     0
 }
