@@ -14,10 +14,11 @@ use Rattle.abi_places.specs.Places.{kindOf}
 use Rattle.cart.specs.ChipState.{bit}
 use Rattle.cart.specs.Record.{recordAllowed}
 use Rattle.cart.specs.Calls.{load, loadSave, questions, accepted, step}
-use Rattle.cart.proofs.Replies.{step-no, step-yes}
+use Rattle.cart.proofs.Replies.{step-yes}
 use Rattle.file_calls.proofs.Exports.{loaded}
 use Rattle.abi_record.specs.RecordBytes.{recordBytes, cartOf, isRecord, stateOf, bytesOf}
 use Rattle.abi_record.specs.Abi.{called}
+use Rattle.abi_record.proofs.Calls.{called-refused}
 use Rattle.abi_files.proofs.Large.{large-read, large-le, large-stays, large-put}
 
 none : (b : Bool) → b && false ≡ false
@@ -40,10 +41,8 @@ loaded-bytes r m f large {r'} {m'} b n l p q =
 module _ (r : List ℕ) (h : isRecord r ≡ true) (g : (recordAllowed (cartOf r) ≡ true) × (recordBytes (cartOf r) ≡ r)) (m f : List ℕ) where
   -- refused for the memory's length, and done
   pub no-memory : length m ≢ memorySize (kindOf (getD r 4 0)) → (3, r, m) ≡ called (step (loadSave f) []) r m
-  unfolding called questions cartOf
-  no-memory n =
-      rw (h, step-no (loadSave f) [] (stateOf r m) 3 (rw (g .0, ne-eqb (length m) (memorySize (kindOf (getD r 4 0))) n)) (λ z. omega (arith, z)))
-      (λ i. (3, sym (g .1) i, m))
+  unfolding questions cartOf
+  no-memory n = called-refused (loadSave f) [] r m 3 h (g .1) (rw (g .0, ne-eqb (length m) (memorySize (kindOf (getD r 4 0))) n)) (λ z. omega (arith, z))
 
   pub load-done : length m ≡ memorySize (kindOf (getD r 4 0)) → {r' m' : List ℕ} → _≡_ {A = List ℕ × List ℕ} (r', m') (bytesOf (load (stateOf r m) f))
       → (0, r', m') ≡ called (step (loadSave f) []) r m

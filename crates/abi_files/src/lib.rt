@@ -25,7 +25,7 @@ ghost use Rattle.abi_record.specs.RecordBytes.{recordBytes, cartOf, isRecord, s
 ghost use Rattle.abi_record.specs.Abi.{called, calledAt, exportAt};
 
 // Question 2, of the usual records quickly.
-fn stands(cart: &[u8; 24]) -> bool
+fn is_record_quick(cart: &[u8; 24]) -> bool
     ensures { λ b. ⌜ b ≡ isRecord (now (cart .entry)) ⌝ }
     ensures { λ _. ⌜ (isRecord (now (cart .entry)) ≡ true → (recordAllowed (cartOf (now (cart .entry))) ≡ true) × (recordBytes (cartOf (now (cart .entry))) ≡ now (cart .entry))) ⌝ }
 {
@@ -101,7 +101,7 @@ pub fn load_save(cart: &mut [u8; 24], memory: &mut [u8], file: &[u8]) -> u32
 pub fn save_data(cart: &[u8; 24], memory: &[u8], destination: &mut [u8], length: &mut u32) -> u32
     ensures { λ x. ⌜ (x, now (cart .entry), now (memory .entry), now (destination .exit), now (length .exit)) ≡ exportAt (now (cart .entry)) (now (memory .entry)) (now (destination .entry)) (now (length .entry)) ⌝ }
 {
-    if !stands(cart) {
+    if !is_record_quick(cart) {
         return 2;
     }
     let kind = kind_of(cart[4]);
@@ -120,7 +120,7 @@ pub fn save_data(cart: &[u8; 24], memory: &[u8], destination: &mut [u8], length:
 pub fn import_save(cart: &mut [u8; 24], memory: &mut [u8], file: &[u8], kept: &mut u32) -> u32
     ensures { λ x. ⌜ (x, now (cart .exit), now (memory .exit), now (kept .exit)) ≡ calledAt (importSave (now (file .entry))) (now (cart .entry)) (now (memory .entry)) (now (kept .entry)) ⌝ }
 {
-    if !stands(cart) {
+    if !is_record_quick(cart) {
         return 2;
     }
     let kind = kind_of(cart[4]);

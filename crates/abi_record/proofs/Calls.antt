@@ -1,15 +1,24 @@
 -- From a call on a record to the call on its 24 bytes. Assumes nothing.
-use mathlib.Core.Path.{_≡_, ap, _∙_}
+use mathlib.Core.Path.{_≡_, sym, ap, _∙_}
+use mathlib.Core.Logic.{_≢_}
 use mathlib.Core.Bool.{true, false}
 use mathlib.Core.List.{List}
 use Prim.Native.Nat.{ℕ}
+use Rattle.lists.specs.Questions.{asked}
 use Rattle.abi_places.specs.Places.{told}
 use Rattle.cart.specs.declared.Cartridge.{Cartridge}
 use Rattle.cart.specs.declared.Reply.{Reply}
 use Rattle.cart.specs.Record.{State, Outcome}
+use Rattle.cart.specs.Calls.{Call, questions, step}
 use Rattle.cart.specs.Replies.{state, replied}
-use Rattle.abi_record.specs.RecordBytes.{recordBytes, cartOf, isRecord}
+use Rattle.cart.proofs.Replies.{step-no}
+use Rattle.abi_record.specs.RecordBytes.{recordBytes, cartOf, isRecord, stateOf}
 use Rattle.abi_record.specs.Abi.{leftBy, called, calledAt}
+
+-- refused with the number of the first question that is answered no: all as it was
+pub called-refused : (q : Call) (d r m : List ℕ) (n : ℕ) → isRecord r ≡ true → recordBytes (cartOf r) ≡ r → n ≡ asked (questions q d (stateOf r m)) → n ≢ 0 → (n, r, m) ≡ called (step q d) r m
+unfolding called
+called-refused q d r m n h b e k = rw (h, step-no q d (stateOf r m) n e k) (λ i. (n, sym b i, m))
 
 module _ (call : State → Outcome) (r m : List ℕ) where
   pub called-no : isRecord r ≡ false → (2, r, m) ≡ called call r m

@@ -18,10 +18,11 @@ use Rattle.eeprom.specs.Eeprom.{bitIn, isReading, readBit, afterRead}
 use Rattle.cart.specs.ChipState.{phaseOf, chipOf}
 use Rattle.cart.specs.Record.{recordAllowed}
 use Rattle.cart.specs.Calls.{eepromWrite, eepromRead, eepromOf, withEeprom, withChip, questions, accepted, step}
-use Rattle.cart.proofs.Replies.{step-no, step-yes}
+use Rattle.cart.proofs.Replies.{step-yes}
 use Rattle.cart.proofs.Sound.{eeprom-size}
 use Rattle.abi_record.specs.RecordBytes.{recordBytes, cartOf, isRecord, stateOf, bytesOf}
 use Rattle.abi_record.specs.Abi.{called, calledAt}
+use Rattle.abi_record.proofs.Calls.{called-refused}
 
 -- a chip that is not reading
 idle-after : (e : Eeprom) → isReading (e .phase) ≡ false → afterRead e ≡ e
@@ -52,16 +53,12 @@ module _ (r : List ℕ) (h : isRecord r ≡ true) (g : (recordAllowed (cartOf r)
   -- a bit in refused: the memory's length, and the kind
   module _ (m : List ℕ) (v : ℕ) where
     pub no-memory : length m ≢ memorySize (kindOf (getD r 4 0)) → (3, r, m) ≡ called (step (eepromWrite v) []) r m
-    unfolding called questions cartOf
-    no-memory n =
-        rw (h, step-no (eepromWrite v) [] (stateOf r m) 3 (rw (g .0, ne-eqb (length m) (memorySize (kindOf (getD r 4 0))) n)) (λ z. omega (arith, z)))
-        (λ i. (3, sym (g .1) i, m))
+    unfolding questions cartOf
+    no-memory n = called-refused (eepromWrite v) [] r m 3 h (g .1) (rw (g .0, ne-eqb (length m) (memorySize (kindOf (getD r 4 0))) n)) (λ z. omega (arith, z))
 
     pub no-eeprom : length m ≡ memorySize (kindOf (getD r 4 0)) → usesEeprom (kindOf (getD r 4 0)) ≡ false → (4, r, m) ≡ called (step (eepromWrite v) []) r m
-    unfolding called questions cartOf
-    no-eeprom n u =
-        rw (h, step-no (eepromWrite v) [] (stateOf r m) 4 (rw (g .0, eq-eqb (length m) (memorySize (kindOf (getD r 4 0))) n, u)) (λ z. omega (arith, z)))
-        (λ i. (4, sym (g .1) i, m))
+    unfolding questions cartOf
+    no-eeprom n u = called-refused (eepromWrite v) [] r m 4 h (g .1) (rw (g .0, eq-eqb (length m) (memorySize (kindOf (getD r 4 0))) n, u)) (λ z. omega (arith, z))
 
   -- serial bits, of a kind with an EEPROM and its memory
   module _ (m : List ℕ) (n : length m ≡ 8192) (u : usesEeprom (kindOf (getD r 4 0)) ≡ true) where

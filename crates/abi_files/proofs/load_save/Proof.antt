@@ -24,7 +24,7 @@ returns-5 c =
     let a = c .before .before .before .before .before .before .before .before .before .before .before .before .before .before .before .before .before .args in
     let k = c .before .before .before .before .before .before .before .before .before .before .before .before .known .ensures in
     let h = c .before .before .before .before .before .before .before .before .before .fresh-usual .ensures (granted _ refl (c .before .before .before .before .before .before .before .before .if3 .left)) (granted _ (k .0) (c .before .before .before .before .before .before .before .before .before .before .before .if2 .left)) in
-    short-done (a .cart .now) h (k .1 h) (a .memory .now) (a .file .now) (omega (arith, c .before .before .before .before .if4 .left, c .before .before .before .before .before .memory-size .ensures, ap memorySize (c .before .before .before .before .before .before .kind-of .ensures))) (c .before .before .before .before .before .before .before .before .before .before .before .before .before .before .if1 .left) (c .before .before .load .ensures)
+    short-done (a .cart .now) h (k .1 h) (a .memory .now) (a .file .now) (omega (arith, c .before .before .before .before .if4 .left, c .before .before .before .before .before .memory-size .ensures, ap memorySize (c .before .before .before .before .before .before .kind-of .ensures))) (omega (arith, c .before .before .before .before .before .before .before .before .before .before .before .before .before .before .if1 .left)) (c .before .before .load .ensures)
 
 pub load-save-spec : {M : Type 1} → statement M
 load-save-spec =

@@ -15,22 +15,22 @@ use Rattle.abi_files.proofs.save_data.Statement.{statement}
 use Rattle.abi_files.proofs.save_data.Tie as tie
 
 returns : tie.Need-returns
-returns c = let a = c .before .before .before .before .args in no-record (a .cart .now) (a .memory .now) (a .destination .now) (a .length .now) (denied _ (c .before .stands .ensures .0) (c .if1 .taken))
+returns c = let a = c .before .before .before .before .args in no-record (a .cart .now) (a .memory .now) (a .destination .now) (a .length .now) (denied _ (c .before .is-record-quick .ensures .0) (c .if1 .taken))
 
 returns-2 : tie.Need-returns-2
 returns-2 c =
     let a = c .before .before .before .before .before .before .before .before .args in
-    let h = granted _ (c .before .before .before .before .before .stands .ensures .0) (c .before .before .before .before .if1 .left) in
-    no-memory (a .cart .now) (a .memory .now) (a .destination .now) (a .length .now) h (c .before .before .before .before .before .stands .ensures .1 h) (λ e. omega (arith, e, c .if2 .taken, c .before .memory-size .ensures, ap memorySize (c .before .before .kind-of .ensures)))
+    let h = granted _ (c .before .before .before .before .before .is-record-quick .ensures .0) (c .before .before .before .before .if1 .left) in
+    no-memory (a .cart .now) (a .memory .now) (a .destination .now) (a .length .now) h (c .before .before .before .before .before .is-record-quick .ensures .1 h) (λ e. omega (arith, e, c .if2 .taken, c .before .memory-size .ensures, ap memorySize (c .before .before .kind-of .ensures)))
 
 returns-3 : tie.Need-returns-3
 returns-3 c =
     let a = c .before .before .before .before .before .before .before .before .before .before .before .args in
     let r = a .cart .now in
-    let h = granted _ (c .before .before .before .before .before .before .before .before .stands .ensures .0) (c .before .before .before .before .before .before .before .if1 .left) in
+    let h = granted _ (c .before .before .before .before .before .before .before .before .is-record-quick .ensures .0) (c .before .before .before .before .before .before .before .if1 .left) in
     let n : length (a .memory .now) ≡ memorySize (kindOf (getD r 4 0)) = omega (arith, c .before .before .before .if2 .left, c .before .before .before .before .memory-size .ensures, ap memorySize (c .before .before .before .before .before .kind-of .ensures)) in
     let k = c .before .file-length .ensures ∙ ap (λ (t : SaveType). fileLength t (eqb (getD r 10 0) 1)) (c .before .before .before .before .before .kind-of .ensures) in
-    no-room r (a .memory .now) (a .destination .now) (a .length .now) h (c .before .before .before .before .before .before .before .before .stands .ensures .1 h) n (c .before .file-length .result) k (omega (arith, c .if3 .taken))
+    no-room r (a .memory .now) (a .destination .now) (a .length .now) h (c .before .before .before .before .before .before .before .before .is-record-quick .ensures .1 h) n (c .before .file-length .result) k (omega (arith, c .if3 .taken))
 
 slice-aggregate-copy-file : tie.Need-slice-aggregate-copy-file
 slice-aggregate-copy-file c =
@@ -52,10 +52,10 @@ returns-4 : tie.Need-returns-4
 returns-4 c =
     let a = c .before .before .before .before .before .before .before .before .before .before .before .before .before .before .before .before .args in
     let r = a .cart .now in
-    let h = granted _ (c .before .before .before .before .before .before .before .before .before .before .before .before .before .stands .ensures .0) (c .before .before .before .before .before .before .before .before .before .before .before .before .if1 .left) in
+    let h = granted _ (c .before .before .before .before .before .before .before .before .before .before .before .before .before .is-record-quick .ensures .0) (c .before .before .before .before .before .before .before .before .before .before .before .before .if1 .left) in
     let n : length (a .memory .now) ≡ memorySize (kindOf (getD r 4 0)) = omega (arith, c .before .before .before .before .before .before .before .before .if2 .left, c .before .before .before .before .before .before .before .before .before .memory-size .ensures, ap memorySize (c .before .before .before .before .before .before .before .before .before .before .kind-of .ensures)) in
     let k = c .before .before .before .before .before .before .file-length .ensures ∙ ap (λ (t : SaveType). fileLength t (eqb (getD r 10 0) 1)) (c .before .before .before .before .before .before .before .before .before .before .kind-of .ensures) in
-    export-done r (a .memory .now) (a .destination .now) (a .length .now) h (c .before .before .before .before .before .before .before .before .before .before .before .before .before .stands .ensures .1 h) n (c .before .before .before .before .before .before .file-length .result) k (omega (arith, c .before .before .before .before .before .if3 .left)) (c .before .before .copy-file .ensures)
+    export-done r (a .memory .now) (a .destination .now) (a .length .now) h (c .before .before .before .before .before .before .before .before .before .before .before .before .before .is-record-quick .ensures .1 h) n (c .before .before .before .before .before .before .file-length .result) k (omega (arith, c .before .before .before .before .before .if3 .left)) (c .before .before .copy-file .ensures)
 
 pub save-data-spec : {M : Type 1} → statement M
 save-data-spec =

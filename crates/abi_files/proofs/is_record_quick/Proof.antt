@@ -1,15 +1,15 @@
--- `abi_files::stands` meets its contract. Assumes nothing.
+-- `abi_files::is_record_quick` meets its contract. Assumes nothing.
 use mathlib.Core.Path.{sym}
 use Rattle.lists.proofs.Bools.{granted}
 use borrow.Author.Needs.{needs}
-use Rattle.abi_files.proofs.stands.Statement.{statement}
-use Rattle.abi_files.proofs.stands.Tie as tie
+use Rattle.abi_files.proofs.is_record_quick.Statement.{statement}
+use Rattle.abi_files.proofs.is_record_quick.Tie as tie
 
 returns-2 : tie.Need-returns-2
 returns-2 c = let k = c .before .before .before .known .ensures in (sym (c .before .serial-usual .ensures (c .if2 .taken) (granted _ (k .0) (c .before .before .if1 .left))), k .1)
 
-pub stands-spec : {M : Type 1} → statement M
-stands-spec =
+pub is-record-quick-spec : {M : Type 1} → statement M
+is-record-quick-spec =
     tie.close
     (tie.spec
     (λ c κs. search needs)
