@@ -78,21 +78,31 @@ fn load_any(cart: &mut [u8; 24], memory: &mut [u8], file: &[u8]) -> u32
     0
 }
 
-// A short file leaves the record as it was, and is soon loaded: of a usual record the questions are asked quickly.
+// Questions 2 and 3 answered yes: an EEPROM as opening leaves it, and its memory.
+fn load_usual(cart: &[u8; 24], memory: usize) -> bool
+    ensures { λ b. ⌜ (b ≡ true → (isRecord (now (cart .entry)) ≡ true) × (recordAllowed (cartOf (now (cart .entry))) ≡ true) × (recordBytes (cartOf (now (cart .entry))) ≡ now (cart .entry)) × (memory ≡ memorySize (kindOf (getD (now (cart .entry)) 4 0)))) ⌝ }
+{
+    if memory != 8192 {
+        return false;
+    }
+    if !uses_eeprom(kind_of(cart[4])) {
+        return false;
+    }
+    if !known(cart) {
+        return false;
+    }
+    fresh_usual(cart)
+}
+
+// An EEPROM's short file leaves the record, and is soon loaded: the questions are asked quickly.
 pub fn load_save(cart: &mut [u8; 24], memory: &mut [u8], file: &[u8]) -> u32
     ensures { λ x. ⌜ (x, now (cart .exit), now (memory .exit)) ≡ called (step (loadSave (now (file .entry))) []) (now (cart .entry)) (now (memory .entry)) ⌝ }
 {
     if 512 < file.len() {
         return load_any(cart, memory, file);
     }
-    if !known(cart) {
+    if !load_usual(cart, memory.len()) {
         return load_any(cart, memory, file);
-    }
-    if !fresh_usual(cart) {
-        return load_any(cart, memory, file);
-    }
-    if memory.len() != memory_size(kind_of(cart[4])) {
-        return 3;
     }
     file_bytes::load(memory, file);
     0
