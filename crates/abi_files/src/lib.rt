@@ -78,7 +78,7 @@ fn load_any(cart: &mut [u8; 24], memory: &mut [u8], file: &[u8]) -> u32
     0
 }
 
-// Questions 2 and 3 answered yes: an EEPROM as opening leaves it, and its memory.
+// Says yes only where questions 2 and 3 do: an EEPROM as opening leaves it, and its memory.
 fn load_usual(cart: &[u8; 24], memory: usize) -> bool
     ensures { λ b. ⌜ (b ≡ true → (isRecord (now (cart .entry)) ≡ true) × (recordAllowed (cartOf (now (cart .entry))) ≡ true) × (recordBytes (cartOf (now (cart .entry))) ≡ now (cart .entry)) × (memory ≡ memorySize (kindOf (getD (now (cart .entry)) 4 0)))) ⌝ }
 {

@@ -26,7 +26,7 @@ pub fn copy_file(s: &mut [u8], output: &[u8])
     copy(s, &held[..n]);
 }
 
-// FFh everywhere, then the file's first bytes.
+// What FFh everywhere and then the file's first bytes leave; each byte is written once.
 pub fn load(memory: &mut [u8], file: &[u8])
     requires { ⌜ length (now memory) ≤ 131072 ⌝ }
     ensures { λ _. ⌜ now (memory .exit) ≡ filled (length (now (memory .entry))) (now (file .entry)) ⌝ }
