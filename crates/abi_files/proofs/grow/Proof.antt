@@ -1,10 +1,7 @@
 -- `abi_files::grow` meets its contract. Assumes nothing.
 use mathlib.Core.Path.{ap, _∙_}
-use mathlib.Core.Bool.{_&&_}
-use lib.Dec.{ltb}
 use borrow.Author.Tests.{ne-eqb, le-ltb, lt-ltb}
 use Rattle.lists.proofs.Bools.{denied, granted}
-use Rattle.kind.specs.declared.SaveType.{SaveType}
 use Rattle.kind.specs.Kind.{usesEeprom}
 use Rattle.abi_files.proofs.Large.{large-stays, large-is}
 use borrow.Author.Needs.{needs}
