@@ -32,12 +32,16 @@ pub fn state_allowed(state: u8) -> bool
     state <= 8
 }
 
-// Where an address leads in a memory of n bytes.
+// Where an address leads in a memory of n bytes. No division, but on a chip with one bank in bank 1.
 pub fn place(flash: Flash, n: usize, address: u32) -> usize
     requires { ⌜ 0 < n ⌝ }
     ensures { λ r. ⌜ (r ≡ place·spec flash n address) × (r < n) ⌝ }
 {
-    (flash.bank as usize * 65536 + address as usize % 65536) % n
+    let at = flash.bank as usize * 65536 + address as usize % 65536;
+    if at < n {
+        return at;
+    }
+    at % n
 }
 
 // A byte of the memory, or, in ID mode, of the chip's ID word.

@@ -1,11 +1,9 @@
 // The byte calls on the 24 bytes of a record as they are lent: only what a call reads is taken out, and only what it changes is written.
 
-use cart::bit;
-use flash::Flash;
-use flash::flash_read;
-use flash::flash_write;
-use memory::apply;
-use memory::dirty_behind;
+mod flash_bytes;
+
+use crate::flash_bytes::flash_kind_read;
+use crate::flash_bytes::flash_kind_write;
 use memory::put_byte;
 ghost use mathlib.Core.Path.{_≡_};
 ghost use mathlib.Core.Bool.{true};
@@ -20,52 +18,6 @@ ghost use Rattle.cart.specs.ChipState.{bit as bit·spec};
 ghost use Rattle.cart.specs.Calls.{withFlash, flashOf};
 ghost use Rattle.abi_record.specs.RecordBytes.{cartOf, isRecord, stateOf, bytesOf};
 ghost use Rattle.in_place.specs.InPlace.{heldAt, readAt, writeAt};
-
-fn flash_in(cart: &[u8]) -> Flash
-    requires { ⌜ length (now cart) ≡ 24 ⌝ }
-    ensures { λ f. ⌜ f ≡ cartOf (now (cart .entry)) .chip .flash ⌝ }
-{
-    Flash {
-        state: cart[6],
-        bank: cart[7],
-        id: cart[8] == 1,
-    }
-}
-
-fn put_flash(cart: &mut [u8], dirty: bool, flash: Flash)
-    requires { ⌜ length (now cart) ≡ 24 ⌝ }
-    ensures { λ _. ⌜ now (cart .exit) ≡ set (set (set (set (now (cart .entry)) 5 (bit·spec dirty)) 6 (flash .state)) 7 (flash .bank)) 8 (bit·spec (flash .id)) ⌝ }
-{
-    cart[5] = bit(dirty);
-    cart[6] = flash.state;
-    cart[7] = flash.bank;
-    cart[8] = bit(flash.id);
-}
-
-fn write_flash(cart: &mut [u8], memory: &mut [u8], address: u32, value: u8)
-    requires { ⌜ (length (now cart) ≡ 24) × (isRecord (now cart) ≡ true) × (0 < length (now memory)) × (length (now memory) % 4096 ≡ 0) ⌝ }
-    ensures { λ _. ⌜ (now (cart .exit), now (memory .exit)) ≡ bytesOf (withFlash (stateOf (now (cart .entry)) (now (memory .entry))) (writeByte (flashOf (stateOf (now (cart .entry)) (now (memory .entry)))) address value)) ⌝ }
-{
-    let t = flash_write(flash_in(cart), memory.len(), address, value);
-    let store = t.store;
-    let next = t.flash;
-    let dirty = dirty_behind(store, cart[5] == 1);
-    // the record first: an erase then keeps nothing for afterwards
-    put_flash(cart, dirty, next);
-    apply(store, memory);
-}
-
-// A byte of a flash kind's memory, which is to have that size, or question 3; the next two are of Sram and of the EEPROM kinds.
-fn flash_kind_write(size: usize, cart: &mut [u8], memory: &mut [u8], address: u32, value: u8) -> u32
-    requires { ⌜ (length (now cart) ≡ 24) × (isRecord (now cart) ≡ true) × (0 < size) × (size % 4096 ≡ 0) ⌝ }
-    ensures { λ x. ⌜ (x, (now (cart .exit), now (memory .exit))) ≡ heldAt size (now (memory .entry)) (bytesOf (withFlash (stateOf (now (cart .entry)) (now (memory .entry))) (writeByte (flashOf (stateOf (now (cart .entry)) (now (memory .entry)))) address value))) (now (cart .entry), now (memory .entry)) ⌝ }
-{
-    if memory.len() != size {
-        return 3;
-    }
-    write_flash(cart, memory, address, value);
-    0
-}
 
 fn sram_write(cart: &mut [u8], memory: &mut [u8], address: u32, value: u8) -> u32
     requires { ⌜ length (now cart) ≡ 24 ⌝ }
@@ -128,24 +80,6 @@ fn plain_read(size: u32, memory: &[u8], address: u32, value: &mut u32) -> u32
         return 3;
     }
     *value = memory[(address % size) as usize] as u32;
-    0
-}
-
-fn flash_kind_read(
-    word: u16,
-    size: usize,
-    cart: &[u8],
-    memory: &[u8],
-    address: u32,
-    value: &mut u32,
-) -> u32
-    requires { ⌜ (length (now cart) ≡ 24) × (0 < size) ⌝ }
-    ensures { λ x. ⌜ (x, now (value .exit)) ≡ heldAt size (now (memory .entry)) (flashRead word (cartOf (now (cart .entry)) .chip .flash) (now (memory .entry)) address) (now (value .entry)) ⌝ }
-{
-    if memory.len() != size {
-        return 3;
-    }
-    *value = flash_read(word, flash_in(cart), memory, address) as u32;
     0
 }
 

@@ -59,7 +59,7 @@ fn put_block(memory: &mut [u8], block: usize, word: u64)
     put_word(&mut memory[start..end], word);
 }
 
-fn erase_sector(memory: &mut [u8], place: usize)
+pub fn erase_sector(memory: &mut [u8], place: usize)
     requires { ⌜ Fits (Sector place) (length (now memory)) ⌝ }
     ensures { λ _. ⌜ now (memory .exit) ≡ stored (Sector place) (now (memory .entry)) ⌝ }
 {

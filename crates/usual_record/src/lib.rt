@@ -10,7 +10,7 @@ use lists::low64;
 ghost use mathlib.Core.Path.{_≡_};
 ghost use mathlib.Core.Bool.{Bool, true};
 ghost use Prim.Native.Nat.{ℕ, _+_, _<_, _≤_};
-ghost use lib.ListN.{length};
+ghost use lib.ListN.{length, getD};
 ghost use Rattle.eeprom.specs.Eeprom.{widthAllowed, countLimit};
 ghost use Rattle.cart.specs.ChipState.{phaseOf};
 ghost use Rattle.cart.specs.Record.{recordAllowed};
@@ -36,48 +36,16 @@ pub fn known(r: &[u8; 24]) -> bool
     known_in(&r[..])
 }
 
+// No ID mode but 0 or 1, and the serial chip at rest.
 fn serial_rests(bytes: &[u8]) -> bool
     requires { ⌜ length (now bytes) ≡ 24 ⌝ }
-    ensures { λ b. ⌜ (b ≡ true → SerialRests (now (bytes .entry))) ⌝ }
+    ensures { λ b. ⌜ (b ≡ true → (getD (now (bytes .entry)) 8 0 ≤ 1) × SerialRests (now (bytes .entry))) ⌝ }
 {
     low64(
-        low32(bytes[9], bytes[10], bytes[11], bytes[12]),
-        low32(bytes[13], bytes[14], bytes[15], bytes[16]),
+        low32(bytes[8], bytes[9], bytes[10], bytes[11]),
+        low32(bytes[12], bytes[13], bytes[14], bytes[15]),
     )
-        == 0
-}
-
-fn flash_rests(bytes: &[u8]) -> bool
-    requires { ⌜ length (now bytes) ≡ 24 ⌝ }
-    ensures { λ b. ⌜ (b ≡ true → FlashUsual (now (bytes .entry))) ⌝ }
-{
-    low32(bytes[6], bytes[7], bytes[8], bytes[9]) == 0
-}
-
-fn flash_usual(bytes: &[u8]) -> bool
-    requires { ⌜ length (now bytes) ≡ 24 ⌝ }
-    ensures { λ b. ⌜ (b ≡ true → FlashUsual (now (bytes .entry))) ⌝ }
-{
-    if !state_allowed(bytes[6]) {
-        return false;
-    }
-    if 1 < bytes[7] {
-        return false;
-    }
-    bytes[8] <= 1
-}
-
-fn flash_by_kind(bytes: &[u8]) -> bool
-    requires { ⌜ length (now bytes) ≡ 24 ⌝ }
-    ensures { λ b. ⌜ (b ≡ true → FlashUsual (now (bytes .entry))) ⌝ }
-{
-    if bytes[4] < 2 {
-        return flash_rests(bytes);
-    }
-    if 3 < bytes[4] {
-        return flash_rests(bytes);
-    }
-    flash_usual(bytes)
+        <= 1
 }
 
 fn write_usual_in(bytes: &[u8]) -> bool
@@ -87,10 +55,13 @@ fn write_usual_in(bytes: &[u8]) -> bool
     if 1 < bytes[5] {
         return false;
     }
+    if 1 < bytes[7] {
+        return false;
+    }
     if !serial_rests(bytes) {
         return false;
     }
-    flash_by_kind(bytes)
+    state_allowed(bytes[6])
 }
 
 fn read_usual_in(bytes: &[u8]) -> bool
@@ -104,23 +75,17 @@ fn read_usual_in(bytes: &[u8]) -> bool
     if 1 < bytes[7] {
         return false;
     }
-    // ID mode and the serial chip
-    low64(
-        low32(bytes[8], bytes[9], bytes[10], bytes[11]),
-        low32(bytes[12], bytes[13], bytes[14], bytes[15]),
-    )
-        <= 1
+    serial_rests(bytes)
 }
 
-// For a read: neither chip is in a command. A write needs another test: it stores single bytes, and reading eight of them at once has to wait for
-// that.
+// For a read: neither chip is in a command.
 pub fn read_usual(r: &[u8; 24]) -> bool
     ensures { λ b. ⌜ (b ≡ true → isKnown (now (r .entry)) ≡ true → isRecord (now (r .entry)) ≡ true) ⌝ }
 {
     read_usual_in(&r[..])
 }
 
-// For a write: the serial chip is at rest, and, but on a flash kind, the flash chip too.
+// For a write: the serial chip is at rest. What a write stores it reads as single bytes: joined to others they would have to be waited for.
 pub fn write_usual(r: &[u8; 24]) -> bool
     ensures { λ b. ⌜ (b ≡ true → isKnown (now (r .entry)) ≡ true → isRecord (now (r .entry)) ≡ true) ⌝ }
 {

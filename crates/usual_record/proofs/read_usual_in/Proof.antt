@@ -1,6 +1,4 @@
--- `usual_record::read_usual_in` meets its contract. Assumes nothing.
 use native.Mathlib.Omega.{arith}
-use borrow.Author.Tests.{leb-true}
 use Rattle.usual_record.proofs.QuickTests.{never, flash-zero, rests-record}
 use borrow.Author.Needs.{needs}
 use Rattle.usual_record.proofs.read_usual_in.Statement.{statement}
@@ -14,17 +12,11 @@ returns-2 c = λ e h. never e
 
 returns-3 : tie.Need-returns-3
 returns-3 c = λ e h.
-    let f = c .before .before .before .before .before .before .before .before .before .before .before .before .before .before .low16 .ensures in
-    let g = c .before .before .before .before .before .before .before .before .before .before .before .before .before .if1 .left in
-    let z = c .low64 .ensures in
-    let l = leb-true (c .low64 .result) _ e in
-    let a = c .before .before .before .before .before .before .low32 .ensures in
-    let b = c .before .low322 .ensures in
-    let r = c .before .before .before .before .before .before .before .before .before .before .before .before .before .before .before .before .before .before .args .bytes .now in
-    rests-record r (c .before .before .before .before .before .before .before .before .before .before .before .before .before .before .before .before .before .before .pre) (omega (arith, f, g))
-    (flash-zero r (omega (arith, f, g)) (c .before .before .before .before .before .before .before .before .before .before .before .if2 .left) (omega (arith, z, l, a, b)))
-    (record { width = omega (arith, z, l, a, b); large = omega (arith, z, l, a, b); phase = omega (arith, z, l, a, b); count = omega (arith, z, l, a, b); block = omega (arith, z, l, a, b); place = omega (arith, z, l, a, b) })
-    h
+    let f = c .before .before .before .before .low16 .ensures in
+    let g = c .before .before .before .if1 .left in
+    let s = c .serial-rests .ensures e in
+    let r = c .before .before .before .before .before .before .before .before .args .bytes .now in
+    rests-record r (c .before .before .before .before .before .before .before .before .pre) (omega (arith, f, g)) (flash-zero r (omega (arith, f, g)) (c .before .if2 .left) (s .0)) (s .1) h
 
 pub read-usual-in-spec : {M : Type 1} → statement M
 read-usual-in-spec =
@@ -36,15 +28,5 @@ read-usual-in-spec =
     returns
     (λ c. search needs)
     returns-2
-    (λ c. search needs)
-    (λ c. search needs)
-    (λ c. search needs)
-    (λ c. search needs)
-    (λ c κs. search needs)
-    (λ c. search needs)
-    (λ c. search needs)
-    (λ c. search needs)
-    (λ c. search needs)
-    (λ c κs. search needs)
     (λ c κs. search needs)
     returns-3)

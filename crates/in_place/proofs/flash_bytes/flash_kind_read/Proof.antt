@@ -5,8 +5,8 @@ use Rattle.flash.specs.Flash.{flashRead}
 use Rattle.abi_record.specs.RecordBytes.{cartOf}
 use Rattle.in_place.proofs.ByKind.{held-yes, held-no}
 use borrow.Author.Needs.{needs}
-use Rattle.in_place.proofs.flash_kind_read.Statement.{statement}
-use Rattle.in_place.proofs.flash_kind_read.Tie as tie
+use Rattle.in_place.proofs.flash_bytes.flash_kind_read.Statement.{statement}
+use Rattle.in_place.proofs.flash_bytes.flash_kind_read.Tie as tie
 
 returns : tie.Need-returns
 returns c = let a = c .before .before .before .args in held-no (a .size) (a .memory .now) (flashRead (a .word) (cartOf (a .cart .now) .chip .flash) (a .memory .now) (a .address)) (a .value .now) (c .if1 .taken)

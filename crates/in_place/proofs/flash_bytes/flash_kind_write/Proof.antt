@@ -7,8 +7,8 @@ use mathlib.Core.Path.{ap, _∙_}
 use Rattle.flash.specs.Flash.{writeByte}
 use Rattle.cart.specs.Calls.{withFlash, flashOf}
 use Rattle.in_place.proofs.ByKind.{held-yes, held-no}
-use Rattle.in_place.proofs.flash_kind_write.Statement.{statement}
-use Rattle.in_place.proofs.flash_kind_write.Tie as tie
+use Rattle.in_place.proofs.flash_bytes.flash_kind_write.Statement.{statement}
+use Rattle.in_place.proofs.flash_bytes.flash_kind_write.Tie as tie
 
 returns : tie.Need-returns
 returns c =
