@@ -23,10 +23,7 @@ pub struct FlashStep {
 pub fn state_allowed(state: u8) -> bool
     ensures { λ r. ⌜ r ≡ stateAllowed state ⌝ }
 {
-    if state <= 2 {
-        return true;
-    }
-    if state < 4 {
+    if state == 3 {
         return false;
     }
     state <= 8

@@ -1,12 +1,12 @@
 -- A kind by its number, and the memory's size. Assumes nothing.
-use mathlib.Core.Path.{_≡_, refl, _∙_}
+use mathlib.Core.Path.{_≡_, refl, sym, ap, _∙_}
 use mathlib.Core.Logic.{_≢_}
 use mathlib.Core.List.{List}
 use Prim.Native.Nat.{ℕ, _≤_, _<_}
 use native.Mathlib.Omega.{arith}
 use lib.Dec.{eqb}
 use lib.ListN.{length}
-use borrow.Author.Tests.{eq-eqb, ne-eqb}
+use borrow.Author.Tests.{eq-eqb, ne-eqb, eqb-true, eqb-false}
 use Rattle.abi_places.specs.Places.{kindOf}
 use Rattle.lists.proofs.Bools.{cases}
 use Rattle.kind.specs.declared.SaveType.{SaveType}
@@ -29,6 +29,11 @@ kind-2 n e = rw e refl
 pub kind-3 : (n : ℕ) → 2 ≤ n → n ≤ 3 → n ≢ 2 → kindOf n ≡ Flash128
 unfolding kindOf
 kind-3 n l u h = let e : n ≡ 3 = omega (arith, h) in rw e refl
+
+-- 2 and 3 are both flash kinds
+pub kind-flash : {A : Type 0} (f : SaveType → A) (n : ℕ) → 2 ≤ n → n ≤ 3 → f Flash64 ≡ f Flash128 → f Flash64 ≡ f (kindOf n)
+kind-flash f n l u h =
+    cases (eqb n 2) (λ e. ap f (sym (kind-2 n (eqb-true n 2 e)))) (λ e. h ∙ ap f (sym (kind-3 n l u (eqb-false n 2 e))))
 
 -- of numbers above 3 both kinds are EEPROMs
 pub kind-above : {A : Type 0} (f : SaveType → A) (n : ℕ) → 3 < n → f Eeprom512 ≡ f Eeprom8k → f Eeprom512 ≡ f (kindOf n)

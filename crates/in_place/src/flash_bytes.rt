@@ -9,15 +9,17 @@ use memory::put_byte;
 ghost use mathlib.Core.Path.{_≡_};
 ghost use mathlib.Core.Bool.{true, cond};
 ghost use mathlib.Core.List.{List};
-ghost use Prim.Native.Nat.{ℕ, _%_, _<_};
+ghost use Prim.Native.Nat.{ℕ, _%_, _≤_, _<_};
 ghost use lib.Dec.{eqb};
-ghost use lib.ListN.{length, set};
+ghost use lib.ListN.{length, getD, set};
 ghost use Rattle.memory.specs.declared.Store.the-variants.{Byte};
 ghost use Rattle.memory.specs.Memory.{stored};
 ghost use Rattle.flash.specs.Flash.{place as place·spec, flashRead, writeByte};
+ghost use Rattle.kind.specs.Kind.{memorySize};
+ghost use Rattle.abi_places.specs.Places.{kindOf};
 ghost use Rattle.cart.specs.Calls.{withFlash, flashOf};
 ghost use Rattle.abi_record.specs.RecordBytes.{cartOf, isRecord, stateOf, bytesOf};
-ghost use Rattle.in_place.specs.InPlace.{heldAt, commandLeft, eraseLeft};
+ghost use Rattle.in_place.specs.InPlace.{heldAt, writeAt, commandLeft, eraseLeft};
 
 fn flash_in(cart: &[u8]) -> Flash
     requires { ⌜ length (now cart) ≡ 24 ⌝ }
@@ -153,12 +155,23 @@ fn write_flash(cart: &mut [u8], memory: &mut [u8], address: u32, value: u8)
     erase_part(cart, memory, address, value);
 }
 
-// A byte of a flash kind's memory, which is to have that size, or question 3.
-pub fn flash_kind_write(size: usize, cart: &mut [u8], memory: &mut [u8], address: u32, value: u8) -> u32
-    requires { ⌜ (length (now cart) ≡ 24) × (isRecord (now cart) ≡ true) × (0 < size) × (size % 4096 ≡ 0) ⌝ }
-    ensures { λ x. ⌜ (x, (now (cart .exit), now (memory .exit))) ≡ heldAt size (now (memory .entry)) (bytesOf (withFlash (stateOf (now (cart .entry)) (now (memory .entry))) (writeByte (flashOf (stateOf (now (cart .entry)) (now (memory .entry)))) address value))) (now (cart .entry), now (memory .entry)) ⌝ }
+// The memory's size of a flash kind.
+fn flash_size(kind: u8) -> usize
+    requires { ⌜ (2 ≤ kind) × (kind ≤ 3) ⌝ }
+    ensures { λ n. ⌜ (n ≡ memorySize (kindOf kind)) × (0 < n) × (n % 4096 ≡ 0) ⌝ }
 {
-    if memory.len() != size {
+    if kind == 2 {
+        return 65536;
+    }
+    131072
+}
+
+// A byte written to a flash kind, or question 3.
+pub fn flash_kind_write(cart: &mut [u8], memory: &mut [u8], address: u32, value: u8) -> u32
+    requires { ⌜ (length (now cart) ≡ 24) × (isRecord (now cart) ≡ true) × (2 ≤ getD (now cart) 4 0) × (getD (now cart) 4 0 ≤ 3) ⌝ }
+    ensures { λ x. ⌜ (x, (now (cart .exit), now (memory .exit))) ≡ writeAt (kindOf (getD (now (cart .entry)) 4 0)) (now (cart .entry)) (now (memory .entry)) address value ⌝ }
+{
+    if memory.len() != flash_size(cart[4]) {
         return 3;
     }
     write_flash(cart, memory, address, value);

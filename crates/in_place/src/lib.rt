@@ -12,11 +12,8 @@ ghost use Prim.Native.Nat.{ℕ, _%_, _<_};
 ghost use lib.ListN.{length, getD, set};
 ghost use Rattle.memory.specs.declared.Store.the-variants.{Byte};
 ghost use Rattle.memory.specs.Memory.{stored};
-ghost use Rattle.flash.specs.Flash.{flashRead, writeByte};
 ghost use Rattle.abi_places.specs.Places.{kindOf};
-ghost use Rattle.cart.specs.ChipState.{bit as bit·spec};
-ghost use Rattle.cart.specs.Calls.{withFlash, flashOf};
-ghost use Rattle.abi_record.specs.RecordBytes.{cartOf, isRecord, stateOf, bytesOf};
+ghost use Rattle.abi_record.specs.RecordBytes.{isRecord, stateOf};
 ghost use Rattle.in_place.specs.InPlace.{heldAt, readAt, writeAt};
 
 fn sram_write(cart: &mut [u8], memory: &mut [u8], address: u32, value: u8) -> u32
@@ -50,25 +47,23 @@ fn none_write(memory: &[u8]) -> u32
     0
 }
 
-// What a byte written leaves, or question 3. Here and below the kinds by pairs: tests, not a jump through a table.
+// What a byte written leaves, or question 3. Here and below the kinds by pairs: tests, not a jump through a table. Writes go to flash chips first:
+// those take several for each byte.
 pub fn write_in_place(cart: &mut [u8], memory: &mut [u8], address: u32, value: u8) -> u32
     requires { ⌜ (length (now cart) ≡ 24) × (isRecord (now cart) ≡ true) ⌝ }
     ensures { λ x. ⌜ (x, (now (cart .exit), now (memory .exit))) ≡ writeAt (kindOf (getD (now (cart .entry)) 4 0)) (now (cart .entry)) (now (memory .entry)) address value ⌝ }
 {
     let kind = cart[4];
-    if kind < 2 {
-        if kind == 1 {
-            return sram_write(cart, memory, address, value);
+    if 1 < kind {
+        if kind < 4 {
+            return flash_kind_write(cart, memory, address, value);
         }
-        return none_write(memory);
-    }
-    if 3 < kind {
         return eeprom_kind_write(memory, address, value);
     }
-    if kind == 2 {
-        return flash_kind_write(65536, cart, memory, address, value);
+    if kind == 1 {
+        return sram_write(cart, memory, address, value);
     }
-    flash_kind_write(131072, cart, memory, address, value)
+    none_write(memory)
 }
 
 // A byte of a memory that is to have that size, or question 3.

@@ -68,11 +68,12 @@ fn read_usual_in(bytes: &[u8]) -> bool
     requires { ⌜ length (now bytes) ≡ 24 ⌝ }
     ensures { λ b. ⌜ (b ≡ true → isKnown (now (bytes .entry)) ≡ true → isRecord (now (bytes .entry)) ≡ true) ⌝ }
 {
-    // the flag and the flash state
-    if 1 < low16(bytes[5], bytes[6]) {
+    // kind, flag, flash state and bank
+    let front = low32(bytes[4], bytes[5], bytes[6], bytes[7]);
+    if 512 <= front % 16777216 {
         return false;
     }
-    if 1 < bytes[7] {
+    if 33554432 <= front {
         return false;
     }
     serial_rests(bytes)

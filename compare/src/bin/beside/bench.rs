@@ -4,6 +4,7 @@ mod bytes;
 mod calls;
 mod placed;
 
+use crate::side::Answer;
 use std::hint::black_box;
 use std::sync::OnceLock;
 use std::time::Instant;
@@ -72,6 +73,20 @@ fn length(seconds: f64) -> String {
         s if s < 1e-3 => format!("{:.2} µs", s * 1e6),
         s => format!("{:.2} ms", s * 1e3),
     }
+}
+
+/// The value of a call that has to be accepted, as a host takes it: what is refused by mistake would be timed for nothing.
+fn answered(answer: Answer) -> u32 {
+    if answer.refusal != 0 {
+        refused(answer.refusal);
+    }
+    answer.value
+}
+
+#[cold]
+#[inline(never)]
+fn refused(refusal: u32) -> ! {
+    panic!("a call that is timed was refused, {refusal}")
 }
 
 /// Keeps an answer from being optimized away.

@@ -1,7 +1,7 @@
 //! Time per image, file and erase.
 
 use super::placed::at_lines;
-use super::{row, used};
+use super::{answered, row, used};
 use crate::part::Part;
 use crate::part_image;
 use compare::files::file;
@@ -87,7 +87,7 @@ fn files() {
             &format!("load, {name}, {length} bytes"),
             Turns::<Part>::CALLS,
             || carts.each(|cart| original::load_save(cart, black_box(&file))),
-            || parts.each(|part| used(part.load_save(black_box(&file)).refusal)),
+            || parts.each(|part| used(answered(part.load_save(black_box(&file))))),
         );
         row(
             &format!("export, {name}, {length} bytes"),
@@ -108,7 +108,7 @@ fn erases() {
             name,
             1,
             || command.iter().for_each(|value| original::save_write(&mut cart, 0x5555, *value)),
-            || command.iter().for_each(|value| used(part.save_write(0x5555, *value))),
+            || command.iter().for_each(|value| used(answered(part.save_write(0x5555, *value)))),
         );
     }
 }

@@ -1,6 +1,6 @@
 //! Time per call.
 
-use super::{calls, row, used, values, BATCH};
+use super::{answered, calls, row, used, values, BATCH};
 use crate::part::Part;
 use crate::part_image;
 use crate::side::Side;
@@ -42,7 +42,7 @@ fn reads() {
         ("byte read, Eeprom512", kind::EEPROM512, [0; 18]),
     ] {
         let (cart, part) = open(kind, chip);
-        calls(name, |i| used(original::save_read(&cart, i * 37)), |i| used(part.save_read(i * 37).value));
+        calls(name, |i| used(original::save_read(&cart, i * 37)), |i| used(answered(part.save_read(i * 37))));
     }
 }
 
@@ -65,7 +65,7 @@ fn writes() {
             name,
             &commands,
             |value| original::save_write(&mut cart, 0x5555, value),
-            |value| used(part.save_write(0x5555, value).refusal),
+            |value| used(answered(part.save_write(0x5555, value))),
         );
     }
 }
@@ -86,7 +86,7 @@ fn bits() {
         calls(
             &format!("DMA {words}"),
             |_| original::eeprom_begin_dma(&mut cart, black_box(words)),
-            |_| used(part.eeprom_begin_dma(black_box(words)).refusal),
+            |_| used(answered(part.eeprom_begin_dma(black_box(words)))),
         );
     }
     for (name, command) in [
@@ -94,7 +94,12 @@ fn bits() {
         ("serial bit in, addresses of 17 bits", set_address(14, 100)),
     ] {
         let (mut cart, mut part) = open(kind::EEPROM512, idle);
-        values(name, &stream(command), |bit| original::eeprom_write(&mut cart, bit), |bit| used(part.eeprom_write(bit).refusal));
+        values(
+            name,
+            &stream(command),
+            |bit| original::eeprom_write(&mut cart, bit),
+            |bit| used(answered(part.eeprom_write(bit))),
+        );
     }
     let reading = with_block(serial(14, 1, 6, 0), 100);
     let (mut cart, mut part) = open(kind::EEPROM512, reading);
@@ -106,12 +111,12 @@ fn bits() {
             (0..68).for_each(|_| used(original::eeprom_read(&mut cart)));
         },
         || {
-            used(part.restore(&reading).refusal);
-            (0..68).for_each(|_| used(part.eeprom_read().value));
+            used(answered(part.restore(&reading)));
+            (0..68).for_each(|_| used(answered(part.eeprom_read())));
         },
     );
     let (mut cart, mut part) = open(kind::EEPROM512, idle);
-    calls("serial bit out, idle", |_| used(original::eeprom_read(&mut cart)), |_| used(part.eeprom_read().value));
+    calls("serial bit out, idle", |_| used(original::eeprom_read(&mut cart)), |_| used(answered(part.eeprom_read())));
 }
 
 fn states() {
@@ -122,25 +127,25 @@ fn states() {
         calls(name, |_| used(original::restore(&mut cart, black_box(&chip))), |_| used(part.restore(black_box(&chip)).refusal));
     }
     calls("chip state", |_| used(original::chip_state(&cart)), |_| used(part.chip_state()));
-    calls("take the flag", |_| used(original::take_save_dirty(&mut cart)), |_| used(part.take_save_dirty().value));
-    calls("window start", |_| used(original::eeprom_window_start(&cart)), |_| used(part.eeprom_window_start().value));
+    calls("take the flag", |_| used(original::take_save_dirty(&mut cart)), |_| used(answered(part.take_save_dirty())));
+    calls("window start", |_| used(original::eeprom_window_start(&cart)), |_| used(answered(part.eeprom_window_start())));
 }
 
 fn images() {
     let image = image(BATCH as usize, 7, 0xA0, b"POKEMON RUBY");
     let cart = original::open(&image).expect("an image of an allowed length");
-    calls("image read, 8 bits", |i| used(original::read(&cart, i)), |i| used(part_image::read(&image, i)));
-    calls("image read, 16 bits", |i| used(original::read16(&cart, i)), |i| used(part_image::read16(&image, i)));
-    calls("image read, 32 bits", |i| used(original::read32(&cart, i)), |i| used(part_image::read32(&image, i)));
+    calls("image read, 8 bits", |i| used(original::read(&cart, i)), |i| used(answered(part_image::read(&image, i))));
+    calls("image read, 16 bits", |i| used(original::read16(&cart, i)), |i| used(answered(part_image::read16(&image, i))));
+    calls("image read, 32 bits", |i| used(original::read32(&cart, i)), |i| used(answered(part_image::read32(&image, i))));
     calls(
         "header check",
         |_| used(original::header_checksum(black_box(&image))),
-        |_| used(part_image::header_checksum(black_box(&image))),
+        |_| used(answered(part_image::header_checksum(black_box(&image)))),
     );
     let mut title = [0; 36];
     calls(
         "title",
         |_| used(original::title(black_box(&image))),
-        |_| used(part_image::title(black_box(&image), black_box(&mut title))),
+        |_| used(answered(part_image::title(black_box(&image), black_box(&mut title)))),
     );
 }
