@@ -15,7 +15,7 @@ ghost use Rattle.eeprom.specs.Eeprom.{widthAllowed, countLimit};
 ghost use Rattle.cart.specs.ChipState.{phaseOf};
 ghost use Rattle.cart.specs.Record.{recordAllowed};
 ghost use Rattle.abi_record.specs.RecordBytes.{recordBytes, cartOf, isRecord};
-ghost use Rattle.usual_record.specs.QuickTests.{isKnown, FlashUsual, FieldsUsual, SerialRests, CountAllowed, WantsMore};
+ghost use Rattle.usual_record.specs.QuickTests.{isKnown, FieldsUsual, SerialRests, CountAllowed, WantsMore};
 
 fn known_in(bytes: &[u8]) -> bool
     requires { ⌜ length (now bytes) ≡ 24 ⌝ }
@@ -68,12 +68,11 @@ fn read_usual_in(bytes: &[u8]) -> bool
     requires { ⌜ length (now bytes) ≡ 24 ⌝ }
     ensures { λ b. ⌜ (b ≡ true → isKnown (now (bytes .entry)) ≡ true → isRecord (now (bytes .entry)) ≡ true) ⌝ }
 {
-    // kind, flag, flash state and bank
-    let front = low32(bytes[4], bytes[5], bytes[6], bytes[7]);
-    if 512 <= front % 16777216 {
+    // the flag and the flash state
+    if 1 < low16(bytes[5], bytes[6]) {
         return false;
     }
-    if 33554432 <= front {
+    if 1 < bytes[7] {
         return false;
     }
     serial_rests(bytes)

@@ -1,8 +1,6 @@
 -- `in_place::flash_bytes::command` meets its contract. Assumes nothing.
-use mathlib.Core.Path.{_∙_}
 use native.Mathlib.Omega.{arith}
 use borrow.Author.Tests.{eq-eqb, ne-eqb}
-use Rattle.lists.proofs.Bools.{tests}
 use Rattle.in_place.specs.InPlace.{commandLeft}
 use borrow.Author.Needs.{needs}
 use Rattle.in_place.proofs.flash_bytes.command.Statement.{statement}

@@ -1,9 +1,8 @@
 -- `in_place::flash_bytes::erase_part` meets its contract. Assumes nothing.
-use mathlib.Core.List.{List}
 use mathlib.Core.Path.{ap, _∙_}
 use Prim.Native.Nat.{ℕ}
 use native.Mathlib.Omega.{arith}
-use lib.ListN.{length, set}
+use lib.ListN.{length}
 use borrow.Author.Tests.{eq-eqb, ne-eqb}
 use Rattle.memory.specs.declared.Store.the-variants.{Sector}
 use Rattle.memory.specs.Memory.{stored}
