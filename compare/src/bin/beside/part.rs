@@ -11,9 +11,9 @@ pub struct Part {
     file: Vec<u8>,
 }
 
-/// The answer of a call that writes its value to a place.
+/// The answer of a call that writes its value to a place, in which stands what no call answers.
 pub fn answer(call: impl FnOnce(&mut u32) -> u32) -> Answer {
-    let mut value = 0;
+    let mut value = 0xEEEE_EEEE;
     match call(&mut value) {
         0 => Answer::value(value),
         refusal => Answer::refusal(refusal),
