@@ -100,11 +100,11 @@ pub fn read_in_place(cart: &[u8], memory: &[u8], address: u32, value: &mut u32) 
         }
         return none_read(memory, value);
     }
-    if 3 < kind {
-        return plain_read(8192, memory, address, value);
+    if kind < 4 {
+        if kind == 2 {
+            return flash_kind_read(0x1B32, 65536, cart, memory, address, value);
+        }
+        return flash_kind_read(0x1362, 131072, cart, memory, address, value);
     }
-    if kind == 2 {
-        return flash_kind_read(0x1B32, 65536, cart, memory, address, value);
-    }
-    flash_kind_read(0x1362, 131072, cart, memory, address, value)
+    plain_read(8192, memory, address, value)
 }

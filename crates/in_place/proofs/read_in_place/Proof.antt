@@ -1,5 +1,6 @@
 -- `in_place::read_in_place` meets its contract. Assumes nothing.
 use mathlib.Core.Path.{refl, sym, ap, _∙_}
+use native.Mathlib.Omega.{arith}
 use lib.ListN.{getD}
 use Rattle.kind.specs.declared.SaveType.{SaveType}
 use Rattle.cart.specs.Calls.{readSave}
@@ -20,15 +21,15 @@ returns-2 c = let a = c .before .before .before .before .before .before .before 
 
 returns-3 : tie.Need-returns-3
 unfolding readSave
-returns-3 c = let a = c .before .before .before .before .before .before .before .args in c .plain-read2 .ensures ∙ kind-above (λ (k : SaveType). readAt k (stateOf (a .cart .now) (a .memory .now)) (a .address) (a .value .now)) (getD (a .cart .now) 4 0) (c .before .before .if3 .taken) refl
+returns-3 c = let a = c .before .before .before .before .before .before .before .before .args in c .flash-kind-read .ensures ∙ ap (λ (k : SaveType). readAt k (stateOf (a .cart .now) (a .memory .now)) (a .address) (a .value .now)) (sym (kind-2 (getD (a .cart .now) 4 0) (c .before .before .if4 .taken)))
 
 returns-4 : tie.Need-returns-4
 unfolding readSave
-returns-4 c = let a = c .before .before .before .before .before .before .before .before .args in c .flash-kind-read .ensures ∙ ap (λ (k : SaveType). readAt k (stateOf (a .cart .now) (a .memory .now)) (a .address) (a .value .now)) (sym (kind-2 (getD (a .cart .now) 4 0) (c .before .before .if4 .taken)))
+returns-4 c = let a = c .before .before .before .before .before .before .before .before .args in c .flash-kind-read2 .ensures ∙ ap (λ (k : SaveType). readAt k (stateOf (a .cart .now) (a .memory .now)) (a .address) (a .value .now)) (sym (kind-3 (getD (a .cart .now) 4 0) (c .before .before .before .before .if1 .left) (omega (arith, c .before .before .before .if3 .taken)) (c .before .before .if4 .left)))
 
 returns-5 : tie.Need-returns-5
 unfolding readSave
-returns-5 c = let a = c .before .before .before .before .before .before .before .before .args in c .flash-kind-read2 .ensures ∙ ap (λ (k : SaveType). readAt k (stateOf (a .cart .now) (a .memory .now)) (a .address) (a .value .now)) (sym (kind-3 (getD (a .cart .now) 4 0) (c .before .before .before .before .if1 .left) (c .before .before .before .if3 .left) (c .before .before .if4 .left)))
+returns-5 c = let a = c .before .before .before .before .before .before .before .args in c .plain-read2 .ensures ∙ kind-above (λ (k : SaveType). readAt k (stateOf (a .cart .now) (a .memory .now)) (a .address) (a .value .now)) (getD (a .cart .now) 4 0) (c .before .before .if3 .left) refl
 
 pub read-in-place-spec : {M : Type 1} → statement M
 read-in-place-spec =
