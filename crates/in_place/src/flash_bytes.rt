@@ -141,6 +141,7 @@ fn write_flash(cart: &mut [u8], memory: &mut [u8], address: u32, value: u8)
             program(cart, memory, address, value);
             return;
         }
+        // 5: no record is in state 3
         set_bank(cart, value % 2);
         return;
     }
