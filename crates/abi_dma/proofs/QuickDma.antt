@@ -17,8 +17,8 @@ use Rattle.cart.specs.Record.{recordAllowed}
 use Rattle.cart.specs.Calls.{eepromBeginDma, questions, accepted, step}
 use Rattle.cart.specs.Replies.{state, chipRecord, cartWith}
 use Rattle.cart.proofs.Replies.{step-yes}
-use Rattle.abi_record.specs.RecordBytes.{recordBytes, cartOf, isRecord}
-use Rattle.abi_record.specs.Abi.{called}
+use Rattle.c_record.specs.RecordBytes.{recordBytes, cartOf, isRecord}
+use Rattle.c_record.specs.Abi.{called}
 
 -- width and large among them
 told-14 : (c : Cartridge) → set (set (recordBytes c) 9 14) 10 1 ≡ recordBytes (cartWith c (c .dirty) (chipRecord (c .chip .flash) (told 14 true (c .chip .eeprom))))

@@ -1,15 +1,15 @@
 // `eeprom_begin_dma` on the 24 bytes of a record. In front of the function `_any`, which is of every record and called last, stands the quick test of a
 // usual one.
-use abi_record::cart_of;
-use abi_record::is_record;
-use abi_record::write_back;
-use usual_record::known;
-use usual_record::serial_usual;
+use c_record::cart_of;
+use c_record::is_record;
+use c_record::write_back;
+use quick_tests::known;
+use quick_tests::serial_usual;
 ghost use mathlib.Core.Path.{_≡_};
 ghost use mathlib.Core.List.{List, []};
 ghost use Prim.Native.Nat.{ℕ};
 ghost use Rattle.cart.specs.Calls.{eepromBeginDma, step};
-ghost use Rattle.abi_record.specs.Abi.{called};
+ghost use Rattle.c_record.specs.Abi.{called};
 
 // Lent no memory: whichever one stands beside the record stays.
 fn dma_any(cart: &mut [u8; 24], words: u32) -> u32

@@ -7,7 +7,7 @@ use Prim.Native.Nat.{ℕ, _≤_}
 use native.Mathlib.Omega.{arith}
 use lib.ListN.{getD, set, take}
 use lib.Seq.{set-getD}
-use Rattle.abi_places.specs.Places.{kindOf}
+use Rattle.out_params.specs.Places.{kindOf}
 use Rattle.lists.specs.Lists.{lowFirst, lowValue}
 use Rattle.lists.proofs.Bools.{either}
 use Rattle.kind.specs.Kind.{usesEeprom, windowStart}
@@ -17,8 +17,8 @@ use Rattle.cart.specs.Record.{recordAllowed}
 use Rattle.cart.specs.Calls.{takeSaveDirty, usesEepromOf, eepromWindowStart, questions, accepted}
 use Rattle.cart.specs.Replies.{state, cartWith}
 use Rattle.cart.proofs.Replies.{step-yes}
-use Rattle.abi_record.specs.RecordBytes.{recordBytes, cartOf, isRecord}
-use Rattle.abi_record.specs.Abi.{flagAt, askedAt}
+use Rattle.c_record.specs.RecordBytes.{recordBytes, cartOf, isRecord}
+use Rattle.c_record.specs.Abi.{flagAt, askedAt}
 
 -- the flag among a record's bytes
 flag-read : (c : Cartridge) → getD (recordBytes c) 5 0 ≡ bit (c .dirty)

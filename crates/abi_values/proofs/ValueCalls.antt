@@ -3,15 +3,15 @@ use mathlib.Core.Path.{_≡_, ap, _∙_}
 use mathlib.Core.Bool.{true, false}
 use mathlib.Core.List.{List, []}
 use Prim.Native.Nat.{ℕ}
-use Rattle.abi_places.specs.Places.{told}
+use Rattle.out_params.specs.Places.{told}
 use Rattle.image.specs.declared.Answer.{Answer}
 use Rattle.cart.specs.declared.Cartridge.{Cartridge}
 use Rattle.cart.specs.declared.Reply.{Reply}
 use Rattle.cart.specs.Calls.{takeSaveDirty, step}
 use Rattle.cart.specs.Replies.{state, flagReplied}
-use Rattle.abi_record.specs.RecordBytes.{recordBytes, cartOf, isRecord}
-use Rattle.abi_record.specs.Abi.{leftBy, flagAt, askedAt}
-use Rattle.abi_places.proofs.Answered.{answered}
+use Rattle.c_record.specs.RecordBytes.{recordBytes, cartOf, isRecord}
+use Rattle.c_record.specs.Abi.{leftBy, flagAt, askedAt}
+use Rattle.out_params.proofs.Answered.{answered}
 
 -- `take_save_dirty`
 module _ (r m : List ℕ) (place : ℕ) where

@@ -1,22 +1,22 @@
 // What a record tells in one number: its changed flag, whether its kind has an EEPROM, and where the EEPROM's window starts. None is lent memory:
 // whichever one stands beside the record stays. In front of each stands the quick test of a usual record; a function `_any` is of every record, and
 // called last, so that the quick way pays nothing for it.
-use abi_places::kind_of;
-use abi_places::tell;
-use abi_record::cart_of;
-use abi_record::is_record;
-use abi_record::write_back;
+use out_params::kind_of;
+use out_params::tell;
+use c_record::cart_of;
+use c_record::is_record;
+use c_record::write_back;
 use cart::bit;
 use kind::uses_eeprom as is_eeprom;
 use kind::window_start;
 use lists::low32;
-use usual_record::asked_usual;
-use usual_record::known;
+use quick_tests::asked_usual;
+use quick_tests::known;
 ghost use mathlib.Core.Path.{_≡_};
 ghost use mathlib.Core.List.{List};
 ghost use Prim.Native.Nat.{ℕ};
 ghost use Rattle.cart.specs.Calls.{usesEepromOf, eepromWindowStart};
-ghost use Rattle.abi_record.specs.Abi.{flagAt, askedAt};
+ghost use Rattle.c_record.specs.Abi.{flagAt, askedAt};
 
 fn take_any(cart: &mut [u8; 24], flag: &mut u32) -> u32
     ensures { λ x. ⌜ ((m : List ℕ) → (x, now (cart .exit), m, now (flag .exit)) ≡ flagAt (now (cart .entry)) m (now (flag .entry))) ⌝ }

@@ -21,8 +21,8 @@ use Rattle.cart.specs.ChipState.{bit, phaseNumber, phaseOf, chipBytes, chipOf}
 use Rattle.cart.specs.Calls.{eepromOf, withEeprom, withChip}
 use Rattle.cart.specs.Replies.{chipRecord, cartWith}
 use Rattle.serial_calls.proofs.Bits.{took}
-use Rattle.abi_record.specs.RecordBytes.{recordBytes, cartOf, stateOf, bytesOf}
-use Rattle.usual_record.specs.QuickTests.{WantsMore}
+use Rattle.c_record.specs.RecordBytes.{recordBytes, cartOf, stateOf, bytesOf}
+use Rattle.quick_tests.specs.QuickTests.{WantsMore}
 use Rattle.bits_in_place.specs.Bits.{withAcc, withSerial}
 
 -- one bit more, in each phase that takes several

@@ -14,8 +14,8 @@ ghost use Prim.Native.Nat.{ℕ, _+_, _*_, _%_, _^_, _<_};
 ghost use lib.ListN.{length, getD};
 ghost use Rattle.eeprom.specs.Eeprom.{bitIn, readBit, afterRead};
 ghost use Rattle.cart.specs.Calls.{eepromOf, withEeprom, withChip};
-ghost use Rattle.abi_record.specs.RecordBytes.{cartOf, isRecord, stateOf, bytesOf};
-ghost use Rattle.usual_record.specs.QuickTests.{WantsMore};
+ghost use Rattle.c_record.specs.RecordBytes.{cartOf, isRecord, stateOf, bytesOf};
+ghost use Rattle.quick_tests.specs.QuickTests.{WantsMore};
 ghost use Rattle.bits_in_place.specs.Bits.{withAcc, withSerial};
 
 fn shifted(acc: u64, b: u64) -> u64

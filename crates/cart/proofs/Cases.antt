@@ -4,7 +4,7 @@ use Rattle.lists.specs.Lists.{fold, lowFirst}
 use Rattle.memory.specs.Memory.{erased, stored, filled}
 use Rattle.image.specs.Image.{imageLength, less, headerSum, headerChecksum}
 use Rattle.kind.specs.Kind.{begins, stands, detectSaveType}
-use Rattle.files.specs.SaveFit.{chipSize, saveFit}
+use Rattle.file_sizes.specs.SaveFit.{chipSize, saveFit}
 use Rattle.flash.specs.Flash.{stateAllowed}
 use Rattle.eeprom.specs.Eeprom.{widthAllowed, w, tells6, tells14, beginDma, dmaQuestion, shiftIn, opcodePhase, opcodeBit, writeBit, bitIn}
 use Rattle.cart.specs.ChipState.{phaseOf, chipBytes, chipOf, stateQuestions}

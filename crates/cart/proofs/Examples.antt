@@ -9,7 +9,7 @@ use Rattle.memory.specs.Memory.{erased, stored, filled}
 use Rattle.image.specs.Image.{imageLength}
 use Rattle.kind.specs.declared.SaveType.the-variants.{None}
 use Rattle.kind.specs.Kind.{begins, stands, detectSaveType}
-use Rattle.files.specs.SaveFit.{chipSize, eepromFit, saveFit, keptPart}
+use Rattle.file_sizes.specs.SaveFit.{chipSize, eepromFit, saveFit, keptPart}
 use Rattle.flash.specs.Flash.{stateAllowed}
 use Rattle.eeprom.specs.Eeprom.{widthAllowed, w, readBit, afterRead}
 use Rattle.cart.specs.ChipState.{phaseOf, chipBytes, chipOf, stateQuestions}

@@ -14,7 +14,7 @@ use Rattle.image.specs.Image.{answered}
 use Rattle.kind.specs.declared.SaveType.{SaveType}
 use Rattle.kind.specs.declared.SaveType.the-variants.{None, Sram, Flash64, Flash128, Eeprom512, Eeprom8k}
 use Rattle.kind.specs.Kind.{memorySize, usesEeprom, windowStart}
-use Rattle.files.specs.SaveFit.{saveFit, taken, keptPart}
+use Rattle.file_sizes.specs.SaveFit.{saveFit, taken, keptPart}
 use Rattle.flash.specs.declared.Flash.{Flash}
 use Rattle.flash.specs.Flash.{flashRead, writeByte}
 use Rattle.eeprom.specs.declared.Eeprom.{Eeprom}

@@ -7,8 +7,8 @@ use lib.ListN.{replicate}
 use Rattle.lists.specs.Lists.{ascii}
 use Rattle.image.specs.Image.{headerChecksum}
 use Rattle.kind.specs.declared.SaveType.the-variants.{Sram}
-use Rattle.files.specs.declared.SaveFit.the-variants.{Keeps, Refused}
-use Rattle.files.specs.SaveFit.{saveFit}
+use Rattle.file_sizes.specs.declared.SaveFit.the-variants.{Keeps, Refused}
+use Rattle.file_sizes.specs.SaveFit.{saveFit}
 use Rattle.flash.specs.Gbatek.{write as byteWrite}
 use Rattle.cart.specs.Record.{State, fromBytes}
 use Rattle.cart.specs.Calls.{eepromBeginDma, eepromWrite, loadSave, step, restore}

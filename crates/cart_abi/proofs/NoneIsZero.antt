@@ -4,13 +4,13 @@ use mathlib.Core.Bool.{_||_}
 use Prim.Native.Nat.{ℕ}
 use lib.Dec.{ltb, leb}
 use lib.ListN.{length}
-use Rattle.abi_places.specs.Places.{keptLength}
+use Rattle.out_params.specs.Places.{keptLength}
 use Rattle.lists.proofs.Bools.{either}
 use Rattle.kind.specs.declared.SaveType.{SaveType}
 use Rattle.kind.specs.declared.SaveType.the-variants.{None, Sram, Flash64, Flash128, Eeprom512, Eeprom8k}
 use Rattle.kind.specs.Kind.{detectSaveType}
-use Rattle.files.specs.declared.SaveFit.{SaveFit}
-use Rattle.files.specs.SaveFit.{chipSize, eepromFit, saveFit, saveFitOf, taken}
+use Rattle.file_sizes.specs.declared.SaveFit.{SaveFit}
+use Rattle.file_sizes.specs.SaveFit.{chipSize, eepromFit, saveFit, saveFitOf, taken}
 use Rattle.cart_abi.specs.Claims.{NoneIsZero}
 
 abbrev Told : SaveFit → Type 0

@@ -9,18 +9,18 @@ use lib.Dec.{eqb}
 use lib.ListN.{length, replicate}
 use lib.Pow.{areBytes}
 use borrow.Author.Tests.{ne-eqb}
-use Rattle.abi_places.specs.Places.{placed}
+use Rattle.out_params.specs.Places.{placed}
 use Rattle.lists.specs.Questions.{Question, asked}
 use Rattle.lists.proofs.Bools.{split}
-use Rattle.files.specs.SaveFit.{keptPart}
+use Rattle.file_sizes.specs.SaveFit.{keptPart}
 use Rattle.cart.specs.ChipState.{bit, chipOf}
 use Rattle.cart.specs.Record.{State, Outcome, guarded, openQuestions, outcome, fromBytes}
 use Rattle.cart.specs.Calls.{Call, saveRead, saveWrite, eepromBeginDma, eepromWrite, eepromRead, loadSave, saveData, chipState, takeSaveDirty}
 use Rattle.cart.specs.Calls.{stateWith, load, fileOf, exported, questions, accepted, step, restoreQuestions, restore, importQuestions, importSave}
 use Rattle.cart.specs.Replies.{state, first}
-use Rattle.abi_record.specs.RecordBytes.{recordBytes, cartOf, isRecord}
-use Rattle.abi_record.specs.Abi.{left, called, calledAt, exportAt, flagAt, stateAt}
-use Rattle.abi_record.proofs.RecordBytes.{record-and-bytes}
+use Rattle.c_record.specs.RecordBytes.{recordBytes, cartOf, isRecord}
+use Rattle.c_record.specs.Abi.{left, called, calledAt, exportAt, flagAt, stateAt}
+use Rattle.c_record.proofs.RecordBytes.{record-and-bytes}
 use Rattle.cart_abi.specs.Claims.{MachineCall, ofNine, ofRestore, ofImport, RefusedLeaves}
 
 -- the machine's refusals leave state and destination

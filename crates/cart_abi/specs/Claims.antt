@@ -7,11 +7,11 @@ use Prim.Native.Nat.{ℕ}
 use lib.Dec.{ltb}
 use lib.ListN.{replicate}
 use lib.Pow.{areBytes}
-use Rattle.files.specs.SaveFit.{taken, saveFitOf}
-use Rattle.abi_places.specs.Places.{keptLength}
+use Rattle.file_sizes.specs.SaveFit.{taken, saveFitOf}
+use Rattle.out_params.specs.Places.{keptLength}
 use Rattle.cart.specs.Record.{State, Outcome, fromBytes}
 use Rattle.cart.specs.Calls.{Call, restore, importSave, step}
-use Rattle.abi_record.specs.Abi.{left, called, calledAt, exportAt, flagAt, stateAt}
+use Rattle.c_record.specs.Abi.{left, called, calledAt, exportAt, flagAt, stateAt}
 
 -- the machine's calls
 pub data MachineCall : (State → Outcome) → Type 0 where

@@ -1,10 +1,10 @@
 // `save_read` and `save_write`: the byte calls.
-use abi_bytes::save_read;
-use abi_bytes::save_write;
+use c_byte_calls::save_read;
+use c_byte_calls::save_write;
 ghost use mathlib.Core.Path.{_≡_};
 ghost use mathlib.Core.List.{[]};
 ghost use Rattle.cart.specs.Calls.{saveRead, saveWrite, step};
-ghost use Rattle.abi_record.specs.Abi.{called, calledAt};
+ghost use Rattle.c_record.specs.Abi.{called, calledAt};
 
 #[no_mangle]
 pub extern "C" fn gbasave_save_read(

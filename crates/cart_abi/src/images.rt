@@ -1,13 +1,13 @@
 // What is asked of an image alone.
-use abi_images::detect_save_type;
-use abi_images::header_checksum;
-use abi_images::read;
-use abi_images::read16;
-use abi_images::read32;
-use abi_images::rom_crc;
-use abi_images::title;
+use c_image_calls::detect_save_type;
+use c_image_calls::header_checksum;
+use c_image_calls::read;
+use c_image_calls::read16;
+use c_image_calls::read32;
+use c_image_calls::rom_crc;
+use c_image_calls::title;
 ghost use mathlib.Core.Path.{_≡_};
-ghost use Rattle.abi_places.specs.Places.{answeredAt, kindAnswer, titleAt};
+ghost use Rattle.out_params.specs.Places.{answeredAt, kindAnswer, titleAt};
 ghost use Rattle.image.specs.Image.{read as read·spec, headerChecksum};
 ghost use Rattle.title.specs.Title.{headerTitle};
 ghost use Rattle.crc.specs.Crc.{romCrc};

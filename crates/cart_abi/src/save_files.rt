@@ -1,11 +1,11 @@
 // `load_save`, `save_data` and import: the file calls.
-use abi_files::import_save;
-use abi_files::load_save;
-use abi_files::save_data;
+use c_file_calls::import_save;
+use c_file_calls::load_save;
+use c_file_calls::save_data;
 ghost use mathlib.Core.Path.{_≡_};
 ghost use mathlib.Core.List.{[]};
 ghost use Rattle.cart.specs.Calls.{loadSave, importSave, step};
-ghost use Rattle.abi_record.specs.Abi.{called, calledAt, exportAt};
+ghost use Rattle.c_record.specs.Abi.{called, calledAt, exportAt};
 
 #[no_mangle]
 pub extern "C" fn gbasave_load_save(cart: &mut [u8; 24], memory: &mut [u8], file: &[u8]) -> u32

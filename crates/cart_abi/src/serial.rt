@@ -1,12 +1,12 @@
 // `eeprom_begin_dma`, `eeprom_write` and `eeprom_read`: the serial calls.
 use abi_dma::eeprom_begin_dma;
-use abi_serial::eeprom_read;
-use abi_serial::eeprom_write;
+use c_serial_calls::eeprom_read;
+use c_serial_calls::eeprom_write;
 ghost use mathlib.Core.Path.{_≡_};
 ghost use mathlib.Core.List.{List, []};
 ghost use Prim.Native.Nat.{ℕ};
 ghost use Rattle.cart.specs.Calls.{eepromBeginDma, eepromWrite, eepromRead, step};
-ghost use Rattle.abi_record.specs.Abi.{called, calledAt};
+ghost use Rattle.c_record.specs.Abi.{called, calledAt};
 
 // Lent no memory: whichever one stands beside the record stays.
 #[no_mangle]

@@ -1,8 +1,8 @@
 // The sizes of files and memories.
-ghost use Rattle.abi_places.specs.Places.{answeredAt, fitAnswer, memorySizeAnswer, sizeAnswer};
-use abi_images::memory_size;
-use abi_images::save_fit;
-use abi_images::save_size;
+ghost use Rattle.out_params.specs.Places.{answeredAt, fitAnswer, memorySizeAnswer, sizeAnswer};
+use c_image_calls::memory_size;
+use c_image_calls::save_fit;
+use c_image_calls::save_size;
 ghost use mathlib.Core.Path.{_≡_};
 
 // 0 is kept of a file that cannot be this image's.

@@ -1,7 +1,7 @@
 // Opening, `chip_state`, restore, `take_save_dirty`, and what is asked of a record alone.
-use abi_states::chip_state;
-use abi_states::from_bytes;
-use abi_states::restore_chip_state;
+use c_state_calls::chip_state;
+use c_state_calls::from_bytes;
+use c_state_calls::restore_chip_state;
 use abi_values::eeprom_window_start;
 use abi_values::take_save_dirty;
 use abi_values::uses_eeprom;
@@ -10,7 +10,7 @@ ghost use mathlib.Core.List.{List};
 ghost use Prim.Native.Nat.{ℕ};
 ghost use Rattle.cart.specs.Record.{fromBytes};
 ghost use Rattle.cart.specs.Calls.{restore, usesEepromOf, eepromWindowStart};
-ghost use Rattle.abi_record.specs.Abi.{left, called, flagAt, stateAt, askedAt};
+ghost use Rattle.c_record.specs.Abi.{left, called, flagAt, stateAt, askedAt};
 
 // The record is written whatever it was; where opening is refused, as 24 zeros.
 #[no_mangle]

@@ -1,10 +1,10 @@
 // carttrace: reads frames, a line each, and prints an answer for each. All that it does to them is proved in the crate `trace`; here they
 // are read and written, a piece of the input at a time, so that neither the input nor a line has a longest.
 
-use trace::Session;
-use trace::feed;
-use trace::finish;
-use trace::opened;
+use carttrace_lib::Session;
+use carttrace_lib::feed;
+use carttrace_lib::finish;
+use carttrace_lib::opened;
 ghost use mathlib.Core.Path.{_≡_};
 ghost use Prim.Native.Nat.{_≤_};
 ghost use lib.ListN.{length};

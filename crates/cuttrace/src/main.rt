@@ -5,10 +5,10 @@
 // 16 MiB, for which there is no room here: 05 is played as an Eeprom512 whose list of calls begins with a load of 8,192 erased bytes. That makes
 // the chip large; from there on the two answer the same.
 
-use cut_lines::answers_room;
-use cut_lines::output_room;
-use cut_lines::room;
-use cut_lines::run_trace;
+use cuttrace_lib::answers_room;
+use cuttrace_lib::output_room;
+use cuttrace_lib::room;
+use cuttrace_lib::run_trace;
 ghost use Prim.Native.Nat.{_<_};
 ghost use lib.ListN.{length};
 

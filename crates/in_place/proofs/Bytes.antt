@@ -10,8 +10,8 @@ use Rattle.lists.specs.Lists.{lowFirst}
 use Rattle.cart.specs.declared.Cartridge.{Cartridge}
 use Rattle.cart.specs.ChipState.{chipOf}
 use Rattle.cart.specs.Replies.{cartWith}
-use Rattle.abi_record.specs.RecordBytes.{recordBytes, cartOf, isRecord}
-use Rattle.abi_record.proofs.RecordBytes.{good-record}
+use Rattle.c_record.specs.RecordBytes.{recordBytes, cartOf, isRecord}
+use Rattle.c_record.proofs.RecordBytes.{good-record}
 
 pub back : (r : List ℕ) → ((i : ℕ) → getD r i 0 < 256) → isRecord r ≡ true → recordBytes (cartOf r) ≡ r
 back r b h = good-record r b h .1

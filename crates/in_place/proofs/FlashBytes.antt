@@ -23,8 +23,8 @@ use Rattle.cart.specs.ChipState.{bit, chipBytes, chipOf, stateQuestions}
 use Rattle.cart.specs.Calls.{flashOf, withFlash}
 use Rattle.cart.specs.Replies.{chipRecord, cartWith}
 use Rattle.byte_calls.proofs.Writes.{wrote}
-use Rattle.abi_record.specs.RecordBytes.{recordBytes, cartOf, isRecord, stateOf, bytesOf}
-use Rattle.abi_record.proofs.RecordBytes.{yes}
+use Rattle.c_record.specs.RecordBytes.{recordBytes, cartOf, isRecord, stateOf, bytesOf}
+use Rattle.c_record.proofs.RecordBytes.{yes}
 use Rattle.in_place.specs.InPlace.{commandLeft, eraseLeft}
 
 -- the state is byte 6

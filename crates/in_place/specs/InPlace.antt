@@ -10,7 +10,7 @@ use Rattle.kind.specs.declared.SaveType.{SaveType}
 use Rattle.kind.specs.Kind.{memorySize}
 use Rattle.cart.specs.Record.{State}
 use Rattle.cart.specs.Calls.{readSave, writeSave}
-use Rattle.abi_record.specs.RecordBytes.{stateOf, bytesOf}
+use Rattle.c_record.specs.RecordBytes.{stateOf, bytesOf}
 
 -- a byte call's answer with a memory that is to have that size: 0 and what it gives or leaves, or 3 and all as it was
 unfoldable pub heldAt : {A : Type 0} → ℕ → List ℕ → A → A → ℕ × A

@@ -12,8 +12,8 @@ ghost use Prim.Native.Nat.{ℕ, _%_, _<_};
 ghost use lib.ListN.{length, getD, set};
 ghost use Rattle.memory.specs.declared.Store.the-variants.{Byte};
 ghost use Rattle.memory.specs.Memory.{stored};
-ghost use Rattle.abi_places.specs.Places.{kindOf};
-ghost use Rattle.abi_record.specs.RecordBytes.{isRecord, stateOf};
+ghost use Rattle.out_params.specs.Places.{kindOf};
+ghost use Rattle.c_record.specs.RecordBytes.{isRecord, stateOf};
 ghost use Rattle.in_place.specs.InPlace.{heldAt, readAt, writeAt};
 
 fn sram_write(cart: &mut [u8], memory: &mut [u8], address: u32, value: u8) -> u32

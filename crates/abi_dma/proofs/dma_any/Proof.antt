@@ -2,7 +2,7 @@
 use mathlib.Core.List.{[]}
 use Rattle.cart.specs.Calls.{eepromBeginDma, step}
 use Rattle.lists.proofs.Bools.{denied, granted}
-use Rattle.abi_record.proofs.Calls.{called-no, called-yes}
+use Rattle.c_record.proofs.Calls.{called-no, called-yes}
 use borrow.Author.Needs.{needs}
 use Rattle.abi_dma.proofs.dma_any.Statement.{statement}
 use Rattle.abi_dma.proofs.dma_any.Tie as tie

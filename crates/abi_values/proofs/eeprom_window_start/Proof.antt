@@ -2,7 +2,7 @@ use Rattle.lists.proofs.Bools.{granted}
 use mathlib.Core.Path.{refl, ap, _∙_}
 use Rattle.abi_values.proofs.QuickCalls.{window-quick}
 use Rattle.kind.specs.Kind.{windowStart}
-use Rattle.abi_record.proofs.RecordBytes.{low-four}
+use Rattle.c_record.proofs.RecordBytes.{low-four}
 use borrow.Author.Needs.{needs}
 use Rattle.abi_values.proofs.eeprom_window_start.Statement.{statement}
 use Rattle.abi_values.proofs.eeprom_window_start.Tie as tie

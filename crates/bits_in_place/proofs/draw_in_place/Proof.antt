@@ -5,8 +5,8 @@ use Rattle.lists.proofs.Parts.{rest}
 use Rattle.cart.specs.declared.ChipRecord.{ChipRecord}
 use Rattle.cart.specs.ChipState.{chipOf}
 use Rattle.cart.proofs.Fields.{allowed-bounds}
-use Rattle.abi_record.specs.RecordBytes.{cartOf}
-use Rattle.abi_record.proofs.RecordBytes.{good-record}
+use Rattle.c_record.specs.RecordBytes.{cartOf}
+use Rattle.c_record.proofs.RecordBytes.{good-record}
 use mathlib.Core.Bool.{true}
 use Rattle.eeprom.specs.Eeprom.{readBit}
 use Rattle.bits_in_place.proofs.SerialBits.{draw-left}

@@ -10,8 +10,8 @@ use Rattle.eeprom.proofs.Fits.{write-fits}
 use Rattle.cart.specs.declared.ChipRecord.{ChipRecord}
 use Rattle.cart.specs.ChipState.{chipOf}
 use Rattle.cart.proofs.Fields.{allowed-bounds}
-use Rattle.abi_record.specs.RecordBytes.{cartOf}
-use Rattle.abi_record.proofs.RecordBytes.{good-record}
+use Rattle.c_record.specs.RecordBytes.{cartOf}
+use Rattle.c_record.proofs.RecordBytes.{good-record}
 use Rattle.bits_in_place.proofs.SerialBits.{step-left}
 use borrow.Author.Needs.{needs}
 use Rattle.bits_in_place.proofs.step_in_place.Statement.{statement}

@@ -4,7 +4,7 @@ use native.Mathlib.Omega.{arith}
 use lib.ListN.{getD}
 use Rattle.kind.specs.declared.SaveType.{SaveType}
 use Rattle.cart.specs.Calls.{readSave}
-use Rattle.abi_record.specs.RecordBytes.{stateOf}
+use Rattle.c_record.specs.RecordBytes.{stateOf}
 use Rattle.in_place.specs.InPlace.{readAt}
 use Rattle.in_place.proofs.ByKind.{kind-0, kind-1, kind-2, kind-3, kind-above}
 use borrow.Author.Needs.{needs}

@@ -2,7 +2,7 @@ use mathlib.Core.Path.{ap, _∙_}
 use Prim.Native.Nat.{ℕ}
 use Rattle.flash.specs.declared.Flash.{Flash}
 use Rattle.flash.specs.Flash.{flashRead}
-use Rattle.abi_record.specs.RecordBytes.{cartOf}
+use Rattle.c_record.specs.RecordBytes.{cartOf}
 use Rattle.in_place.proofs.ByKind.{held-yes, held-no}
 use borrow.Author.Needs.{needs}
 use Rattle.in_place.proofs.flash_bytes.flash_kind_read.Statement.{statement}

@@ -5,9 +5,9 @@ use Prim.Native.Nat.{ℕ, _%_, _<_}
 use lib.ListN.{getD}
 use Rattle.kind.specs.declared.SaveType.{SaveType}
 use Rattle.kind.specs.Kind.{memorySize}
-use Rattle.abi_places.specs.Places.{kindOf}
+use Rattle.out_params.specs.Places.{kindOf}
 use Rattle.cart.specs.Calls.{writeSave}
-use Rattle.abi_record.specs.RecordBytes.{stateOf, bytesOf}
+use Rattle.c_record.specs.RecordBytes.{stateOf, bytesOf}
 use Rattle.in_place.proofs.ByKind.{kind-flash, held-yes, held-no}
 use borrow.Author.Needs.{needs}
 use Rattle.in_place.proofs.flash_bytes.flash_kind_write.Statement.{statement}

@@ -6,7 +6,7 @@ use native.Mathlib.Omega.{arith}
 use lib.ListN.{length}
 use Rattle.memory.specs.declared.Store.the-variants.{Byte}
 use Rattle.flash.specs.Flash.{place, flashWrite}
-use Rattle.abi_record.specs.RecordBytes.{cartOf}
+use Rattle.c_record.specs.RecordBytes.{cartOf}
 use Rattle.in_place.proofs.Bytes.{back}
 use Rattle.in_place.proofs.FlashBytes.{state-is, state-5, state-8, unlock-left, command-left, stored-left, bank-left, erase-left}
 use borrow.Author.Needs.{needs}

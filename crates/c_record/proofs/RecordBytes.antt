@@ -1,0 +1,173 @@
+-- The 24 bytes and the record give each other back. Assumes nothing.
+use mathlib.Core.Path.{_≡_, refl, sym, ap, _∙_}
+use mathlib.Core.Bool.{Bool, true, false, _&&_}
+use mathlib.Core.List.{List, [], _∷_, _++_}
+use Prim.Native.Nat.{ℕ, suc, _+_, _*_, _-_, _/_, _%_, _^_, _≤_, _<_}
+use native.Mathlib.Nat.{div-div-eq-div-mul}
+use native.Mathlib.Omega.{arith}
+use lib.Dec.{leb, eqb}
+use lib.ListN.{length, getD, take, drop, replicate, length-drop, length-take, take-append-drop}
+use lib.Pow.{areBytes}
+use lib.Seq.{drop-cons, take-all}
+use borrow.Author.Tests.{leb-true, eqb-true, eqb-false, lt-ltb, lt-leb, le-leb}
+use Rattle.out_params.specs.Places.{kindOf}
+use Rattle.lists.specs.Lists.{lowFirst, lowValue}
+use Rattle.lists.specs.Questions.{asked}
+use Rattle.lists.proofs.Bools.{split, and-left, and-right}
+use Rattle.lists.proofs.Digits.{low-back, low-forth, low-at, bytes-drop, bytes-take}
+use Rattle.lists.proofs.Parts.{rest, spelled, spells}
+use Rattle.image.specs.Image.{imageLength}
+use Rattle.kind.specs.declared.SaveType.{SaveType}
+use Rattle.kind.specs.declared.SaveType.the-variants.{None}
+use Rattle.kind.specs.Kind.{kindNumber}
+use Rattle.out_params.proofs.Numbers.{kind-le, kind-back, kind-forth}
+use Rattle.cart.specs.declared.ChipRecord.{ChipRecord}
+use Rattle.cart.specs.declared.Cartridge.{Cartridge}
+use Rattle.cart.specs.ChipState.{bit, chipBytes, chipOf, stateQuestions}
+use Rattle.cart.specs.Record.{recordAllowed, freshCart}
+use Rattle.cart.proofs.ChipState.{bit-le, bit-back, chip-back, bytes-back}
+use Rattle.cart.proofs.Fields.{state-18}
+use Rattle.c_record.specs.RecordBytes.{recordBytes, cartOf, isRecord}
+use Rattle.c_record.specs.Claims.{RecordAndBytes}
+
+-- four bytes as one number, and a number's four bytes
+pub low-four : (r : List ℕ) → getD r 0 0 + 256 * (getD r 1 0 + 256 * (getD r 2 0 + 256 * getD r 3 0)) ≡ lowValue (take 4 r)
+unfolding lowValue
+low-four r = sym (low-at r 0 3 ∙ rw (low-at r 1 2, low-at r 2 1, low-at r 3 0) (omega arith))
+
+pub four-bytes : (x : ℕ) → lowFirst 4 x ≡ x % 256 ∷ x / 256 % 256 ∷ x / 65536 % 256 ∷ x / 16777216 % 256 ∷ []
+unfolding lowFirst
+four-bytes x = rw (div-div-eq-div-mul x 256 256, div-div-eq-div-mul x 65536 256)
+
+bit-forth : (n : ℕ) → leb n 1 ≡ true → bit (eqb n 1) ≡ n
+bit-forth n h =
+    let l = leb-true n 1 h in
+    split (λ x. x ≡ n) (eqb n 1) (λ e. sym (eqb-true n 1 e)) (λ e. let q = eqb-false n 1 e in omega arith)
+
+-- the four questions of 24 bytes, one by one
+pub record Yes (r : List ℕ) : Type 0 where
+  pub kindOk : leb (getD r 4 0) 5 ≡ true
+  pub flagOk : leb (getD r 5 0) 1 ≡ true
+  pub lenOk : imageLength (lowValue (take 4 r)) ≡ true
+  pub chipOk : asked (stateQuestions (drop 6 r)) ≡ 0
+
+pub yes : (r : List ℕ) → isRecord r ≡ true → Yes r
+unfolding isRecord
+yes r h =
+    let k : Bool = leb (getD r 4 0) 5 in
+    let f : Bool = leb (getD r 5 0) 1 in
+    let l : Bool = imageLength (lowValue (take 4 r)) in
+    let n : ℕ = asked (stateQuestions (drop 6 r)) in
+    let kfl = and-left (k && f && l) (eqb n 0) h in
+    let kf = and-left (k && f) l kfl in
+    record {
+      kindOk = and-left k f kf;
+      flagOk = and-right k f kf;
+      lenOk = and-right (k && f) l kfl;
+      chipOk = eqb-true n 0 (and-right (k && f && l) (eqb n 0) h);
+    }
+
+image-lt : (n : ℕ) → imageLength n ≡ true → n < 256 ^ 4
+unfolding imageLength
+image-lt n h = omega (arith, leb-true n 33554432 (and-right (leb 192 n) (leb n 33554432) h))
+
+written : (c : Cartridge) → recordAllowed c ≡ true → c .chip .eeprom .acc < 2 ^ 64 → (isRecord (recordBytes c) ≡ true) × (cartOf (recordBytes c) ≡ c)
+unfolding isRecord recordBytes cartOf recordAllowed lowFirst
+written c h a =
+    let l : Bool = imageLength (c .len) in
+    let n : ℕ = asked (stateQuestions (chipBytes (c .chip))) in
+    let lenOk = and-left l (eqb n 0) h in
+    let back : lowValue (lowFirst 4 (c .len)) ≡ c .len = low-back 4 (c .len) (image-lt (c .len) lenOk) in (
+      rw (kind-le (c .kind), bit-le (c .dirty), back, lenOk, and-right l (eqb n 0) h),
+      λ i.
+          record {
+            len = back i;
+            kind = kind-back (c .kind) i;
+            dirty = bit-back (c .dirty) i;
+            chip = chip-back (c .chip) a i;
+          },
+    )
+
+read : (r : List ℕ) → areBytes r ≡ true → isRecord r ≡ true → (recordAllowed (cartOf r) ≡ true) × (recordBytes (cartOf r) ≡ r)
+unfolding recordBytes cartOf recordAllowed
+read r b h =
+    let y = yes r h in
+    let d = drop 6 r in
+    let k : chipBytes (chipOf d) ≡ d = bytes-back d (bytes-drop 6 r b) (y .chipOk) in
+    let m : length d ≡ 18 = state-18 d (y .chipOk) in
+    let n : 24 ≤ length r = omega (arith, length-drop 6 r) in
+    let t : length (take 4 r) ≡ 4 = length-take 4 r ∙ omega arith in (
+      rw (k, y .lenOk, y .chipOk),
+      rw (k, kind-forth (getD r 4 0) (y .kindOk), bit-forth (getD r 5 0) (y .flagOk), low-forth 4 (take 4 r) t (bytes-take 4 r b))
+          (ap (λ (l : List ℕ). take 4 r ++ l) (sym (drop-cons r 4 0 (omega arith) ∙ ap (λ (l : List ℕ). getD r 4 0 ∷ l) (drop-cons r 5 0 (omega arith)))) ∙ take-append-drop 4 r),
+    )
+
+nothing : recordBytes (freshCart 0 None) ≡ replicate 24 0
+unfolding recordBytes freshCart chipBytes lowFirst
+nothing = refl
+
+pub record-and-bytes : RecordAndBytes
+record-and-bytes = record { written = written; read = read; nothing = nothing }
+
+-- the bytes, written one by one
+eighteen : (c : ChipRecord) → length (chipBytes c) ≡ 18
+unfolding chipBytes lowFirst
+eighteen c = refl
+
+pub record-spelled : (c : Cartridge) (k d : ℕ) (b : List ℕ) → k ≡ kindNumber (c .kind) → d ≡ bit (c .dirty) → b ≡ chipBytes (c .chip)
+    → c .len % 256 ∷ c .len / 256 % 256 ∷ c .len / 65536 % 256 ∷ c .len / 16777216 % 256 ∷ k ∷ d ∷ spelled b 0 0 18 ≡ recordBytes c
+unfolding recordBytes
+record-spelled c k d b e f g =
+    let n : length b ≡ 18 = ap length g ∙ eighteen (c .chip) in
+    let s : spelled b 0 0 18 ≡ b = sym (spells b 0 18 0 (omega arith)) ∙ take-all 18 b (omega arith) in
+    sym (rw (four-bytes (c .len), ← e, ← f, ← g)
+    (ap (λ (l : List ℕ). c .len % 256 ∷ c .len / 256 % 256 ∷ c .len / 65536 % 256 ∷ c .len / 16777216 % 256 ∷ k ∷ d ∷ l) (sym s)))
+
+-- what is read field by field, and that it is written back
+are-bytes : (l : List ℕ) → ((i : ℕ) → getD l i 0 < 256) → areBytes l ≡ true
+are-bytes [] h = refl
+are-bytes (b ∷ l) h = rw (lt-ltb b 256 (h 0), are-bytes l (λ i. h (suc i)))
+
+pub good-record : (r : List ℕ) → ((i : ℕ) → getD r i 0 < 256) → isRecord r ≡ true → (recordAllowed (cartOf r) ≡ true) × (recordBytes (cartOf r) ≡ r)
+good-record r b h = read r (are-bytes r b) h
+
+fields : (r : List ℕ) (n : ℕ) (k : SaveType) (chip : ChipRecord)
+    → n ≡ getD r 0 0 + 256 * (getD r 1 0 + 256 * (getD r 2 0 + 256 * getD r 3 0))
+    → k ≡ kindOf (getD r 4 0)
+    → chip ≡ chipOf (take (length r - 6) (drop 6 r))
+    → record { len = n; kind = k; dirty = eqb (getD r 5 0) 1; chip = chip } ≡ cartOf r
+unfolding cartOf
+fields r n k chip e f g =
+    let l = e ∙ low-four r in
+    let p = g ∙ ap chipOf (rest 6 r) in
+    λ i. record { len = l i; kind = f i; dirty = eqb (getD r 5 0) 1; chip = p i }
+
+pub record-read : (r : List ℕ) (n : ℕ) (k : SaveType) (chip : ChipRecord) → ((i : ℕ) → getD r i 0 < 256) → isRecord r ≡ true
+    → n ≡ getD r 0 0 + 256 * (getD r 1 0 + 256 * (getD r 2 0 + 256 * getD r 3 0))
+    → k ≡ kindOf (getD r 4 0)
+    → chip ≡ chipOf (take (length r - 6) (drop 6 r))
+    → let c : Cartridge = record { len = n; kind = k; dirty = eqb (getD r 5 0) 1; chip = chip } in
+    (c ≡ cartOf r) × (recordAllowed c ≡ true) × (recordBytes c ≡ r)
+record-read r n k chip b h e f g =
+    let q = fields r n k chip e f g in
+    let y = read r (are-bytes r b) h in
+    (q, ap recordAllowed q ∙ y .0, ap recordBytes q ∙ y .1)
+
+-- the questions of 24 bytes, up to the first no
+pub no-kind : (r : List ℕ) → 5 < getD r 4 0 → false ≡ isRecord r
+unfolding isRecord
+no-kind r k = rw (lt-leb (getD r 4 0) 5 k)
+
+pub no-flag : (r : List ℕ) → getD r 4 0 ≤ 5 → 1 < getD r 5 0 → false ≡ isRecord r
+unfolding isRecord
+no-flag r k f = rw (le-leb (getD r 4 0) 5 k, lt-leb (getD r 5 0) 1 f)
+
+pub no-length : (r : List ℕ) → getD r 4 0 ≤ 5 → getD r 5 0 ≤ 1 → imageLength (lowValue (take 4 r)) ≡ false → false ≡ isRecord r
+unfolding isRecord
+no-length r k f l = rw (le-leb (getD r 4 0) 5 k, le-leb (getD r 5 0) 1 f, l)
+
+pub by-chip : (r : List ℕ) {n : ℕ} → getD r 4 0 ≤ 5 → getD r 5 0 ≤ 1 → imageLength (lowValue (take 4 r)) ≡ true
+    → n ≡ asked (stateQuestions (take (length r - 6) (drop 6 r)))
+    → eqb n 0 ≡ isRecord r
+unfolding isRecord
+by-chip r k f l e = rw (le-leb (getD r 4 0) 5 k, le-leb (getD r 5 0) 1 f, l, e, rest 6 r)

@@ -1,0 +1,169 @@
+-- `carttrace`, fed its input in pieces of any length, prints what document 01 says of the whole input. Assumes nothing.
+use mathlib.Core.Path.{_≡_, refl, sym, ap, _∙_}
+use mathlib.Core.Bool.{true, false, _&&_}
+use mathlib.Core.List.{List, [], _∷_, _++_, append-nil, append-assoc}
+use Prim.Native.Nat.{ℕ, _+_}
+use native.Mathlib.Omega.{arith}
+use lib.Dec.{ltb, eqb}
+use lib.ListN.{length, take, drop}
+use lib.Seq.{take-append-seam}
+use borrow.Author.Tests.{ne-eqb}
+use Rattle.lists.proofs.Bools.{cases}
+use Rattle.hex.specs.Hex.{valueOf}
+use Rattle.image.specs.Image.{imageLength}
+use Rattle.memory.specs.Memory.{erased}
+use Rattle.kind.specs.Kind.{memorySize}
+use Rattle.cart.specs.declared.Cartridge.{Cartridge}
+use Rattle.cart.specs.Record.{State, freshCart}
+use Rattle.cart.specs.Calls.{saveRead, saveWrite, eepromBeginDma, eepromWrite, eepromRead, chipState, takeSaveDirty}
+use Rattle.cart.specs.Replies.{state}
+use Rattle.cart.proofs.Sound.{Sound, sound-step, sound-kind}
+use Rattle.frames.specs.declared.Line.{Line}
+use Rattle.frames.specs.declared.Frame.{Frame}
+use Rattle.frames.specs.declared.Frame.the-variants.{SaveRead, SaveWrite, EepromRead, EepromWrite, BeginDma, TakeFlag, ChipState, Bad}
+use Rattle.frames.specs.declared.FirstLine.{FirstLine}
+use Rattle.frames.specs.declared.FirstLine.the-variants.{Fresh, NoKind}
+use Rattle.frames.specs.Frames.{frame, firstLine, emptyLine, pushed, pushedAll, lineOf}
+use Rattle.frames.proofs.Lines.{frame-said, first-said}
+use Rattle.carttrace_lib.specs.declared.Stage.the-variants.{First, Playing, Over}
+use Rattle.carttrace_lib.specs.declared.Session.{Session}
+use Rattle.carttrace_lib.specs.Trace.{play, playAll, freshKind, playFrom, playLines, linesFrom, carttrace}
+use Rattle.carttrace_lib.specs.Session.{heard, sessionWith, opened, begun, continued, lineEnded, took, tookAll, isEmpty, finished}
+use Rattle.carttrace_lib.proofs.Feeding.{behind}
+
+-- pieces: the input a ++ b is a, and then b from where a left off
+pub pieces : (a b : List ℕ) (s : Session) (m : List ℕ) → let h = tookAll a s m in tookAll (a ++ b) s m ≡ behind (h .text) (tookAll b (h .session) (h .memory))
+unfolding tookAll
+pieces [] b s m = refl
+pieces (c ∷ a) b s m =
+    let h = took s c m in
+    let g = tookAll a (h .session) (h .memory) in
+    let r = tookAll b (g .session) (g .memory) in
+    rw (pieces a b (h .session) (h .memory)) (ap (λ (l : List ℕ). heard l (r .session) (r .memory)) (sym (append-assoc (h .text) (g .text) (r .text))))
+
+-- what the input prints from a session on
+pub printedBy : List ℕ → Session → List ℕ → List ℕ
+printedBy input s m = let t = tookAll input s m in t .text ++ finished (t .session) (t .memory) .text
+
+printed-more : (c : ℕ) (input : List ℕ) (s : Session) (m : List ℕ) → let h = took s c m in printedBy (c ∷ input) s m ≡ h .text ++ printedBy input (h .session) (h .memory)
+unfolding tookAll printedBy
+printed-more c input s m =
+    let h = took s c m in
+    let r = tookAll input (h .session) (h .memory) in
+    append-assoc (h .text) (r .text) (finished (r .session) (r .memory) .text)
+
+took-end : (c : ℕ) (s : Session) (m : List ℕ) → eqb c 0x0a ≡ true → took s c m ≡ lineEnded s m
+unfolding took
+took-end c s m e = rw e
+
+took-char : (c : ℕ) (s : Session) (m : List ℕ) → eqb c 0x0a ≡ false → took s c m ≡ heard [] (sessionWith (s .stage) (pushed (s .line) c) (s .cart)) m
+unfolding took
+took-char c s m e = rw e
+
+-- a line with a character is not empty
+push-full : (l : Line) (c : ℕ) → isEmpty (pushed l c) ≡ false
+unfolding pushed
+push-full l c =
+    cases (l .good)
+    (λ e.
+    cases (ltb (l .count) 12 && ltb (valueOf c) 16) (λ f. rw (e, f) (ne-eqb (l .count + 1) 0 (λ z. omega (arith, z)))) (λ f. rw (e, f)))
+    (λ e. rw e)
+
+stays-full : (l : Line) (text : List ℕ) → isEmpty l ≡ false → isEmpty (pushedAll l text) ≡ false
+unfolding pushedAll
+stays-full l [] h = h
+stays-full l (c ∷ text) h = stays-full (pushed l c) text (push-full l c)
+
+line-full : (c : ℕ) (line : List ℕ) → isEmpty (pushedAll emptyLine (c ∷ line)) ≡ false
+unfolding pushedAll
+line-full c line = stays-full (pushed emptyLine c) line (push-full emptyLine c)
+
+push-more : (l : Line) (line : List ℕ) (c : ℕ) → pushed (pushedAll l line) c ≡ pushedAll l (line ++ (c ∷ []))
+unfolding pushedAll
+push-more l [] c = refl
+push-more l (b ∷ line) c = push-more (pushed l b) line c
+
+-- behind a bad line 1 nothing is printed
+over : (input : List ℕ) (l : Line) (cart : Cartridge) (m : List ℕ) → printedBy input (sessionWith Over l cart) m ≡ []
+unfolding printedBy tookAll took lineEnded finished
+over [] l cart m = cases (isEmpty l) (λ e. rw e) (λ e. rw e)
+over (c ∷ input) l cart m = cases (eqb c 0x0a) (λ e. rw e (over input l cart m)) (λ e. rw e (over input (pushed l c) cart m))
+
+sound-play : (f : Frame) (s : State) → Sound s → Sound (play f s .next)
+unfolding play
+sound-play (SaveRead a) s k = sound-step (saveRead a) [] s k
+sound-play (SaveWrite a v) s k = sound-step (saveWrite a v) [] s k
+sound-play EepromRead s k = sound-step eepromRead [] s k
+sound-play (EepromWrite v) s k = sound-step (eepromWrite v) [] s k
+sound-play (BeginDma words) s k = sound-step (eepromBeginDma words) [] s k
+sound-play TakeFlag s k = sound-step takeSaveDirty [] s k
+sound-play ChipState s k = sound-step chipState [] s k
+sound-play Bad s k = k
+
+-- the memory of a kind at the buffer's front
+front-memory : (s : State) (rest : List ℕ) → Sound s → take (memorySize (s .cart .kind)) (s .memory ++ rest) ≡ s .memory
+front-memory s rest k = rw (sym (k .memoryOk)) (take-append-seam (s .memory) rest)
+
+-- line 1 was a kind: the lines behind it, the characters of the next one so far in `line`
+playing : (input line : List ℕ) (cart : Cartridge) (m : List ℕ) → let s = state cart (take (memorySize (cart .kind)) m) in Sound s
+    → printedBy input (sessionWith Playing (pushedAll emptyLine line) cart) m ≡ playAll (linesFrom line input) s
+unfolding printedBy tookAll finished lineEnded continued linesFrom playAll pushedAll
+playing [] [] cart m k = refl
+playing [] (c ∷ line) cart m k =
+    let s = state cart (take (memorySize (cart .kind)) m) in
+    rw (line-full c line) (ap (λ (f : Frame). play f s .text) (frame-said (c ∷ line)) ∙ sym (append-nil (play (frame (c ∷ line)) s .text)))
+playing (c ∷ input) line cart m k =
+    let n = memorySize (cart .kind) in
+    let s = state cart (take n m) in
+    let l = pushedAll emptyLine line in
+    printed-more c input (sessionWith Playing l cart) m
+    ∙ cases (eqb c 0x0a)
+    (λ e.
+    let p = play (frame line) s in
+    let t = sound-play (frame line) s k in
+    let f = front-memory (p .next) (drop n m) t in
+    rw (took-end c (sessionWith Playing l cart) m e, e)
+    (ap (λ (g : Frame). play g s .text ++ printedBy input (sessionWith Playing emptyLine (play g s .next .cart)) (play g s .next .memory ++ drop n m)) (frame-said line)
+    ∙ ap (λ (r : List ℕ). p .text ++ r)
+    (playing input [] (p .next .cart) (p .next .memory ++ drop n m) (rw f t)
+    ∙ ap (λ (w : List ℕ). playAll (linesFrom [] input) (state (p .next .cart) w)) f)))
+    (λ e. rw (took-char c (sessionWith Playing l cart) m e, e) (ap (λ (q : Line). printedBy input (sessionWith Playing q cart) m) (push-more emptyLine line c) ∙ playing input (line ++ (c ∷ [])) cart m k))
+
+-- line 1 at its end, and what is printed behind it
+first-end : (f : FirstLine) (input : List ℕ) (s : Session) (m : List ℕ) → let h = begun f s m in
+    h .text ++ printedBy input (h .session) (h .memory) ≡ playFrom f (linesFrom [] input)
+unfolding begun freshKind imageLength pushedAll
+first-end NoKind input s m = rw (over input emptyLine (s .cart) m) (append-nil (lineOf 0xff []))
+first-end (Fresh kind) input s m =
+    let n = memorySize kind in
+    let cart = freshCart 192 kind in
+    let k = sound-kind 192 kind refl in
+    let f = front-memory (state cart (erased n)) (drop n m) k in
+    ap (λ (r : List ℕ). lineOf 0 [] ++ r)
+    (playing input [] cart (erased n ++ drop n m) (rw f k) ∙ ap (λ (w : List ℕ). playAll (linesFrom [] input) (state cart w)) f)
+
+first-last : (f : FirstLine) (s : Session) (m : List ℕ) → begun f s m .text ≡ playFrom f []
+unfolding begun playAll
+first-last NoKind s m = refl
+first-last (Fresh kind) s m = sym (append-nil (lineOf 0 []))
+
+starting : (input line : List ℕ) (cart : Cartridge) (m : List ℕ) → printedBy input (sessionWith First (pushedAll emptyLine line) cart) m ≡ playLines (linesFrom line input)
+unfolding printedBy tookAll finished lineEnded linesFrom playLines pushedAll
+starting [] [] cart m = refl
+starting [] (c ∷ line) cart m =
+    let s = sessionWith First (pushedAll emptyLine (c ∷ line)) cart in
+    rw (line-full c line) (ap (λ (f : FirstLine). begun f s m .text) (first-said (c ∷ line)) ∙ first-last (firstLine (c ∷ line)) s m)
+starting (c ∷ input) line cart m =
+    let l = pushedAll emptyLine line in
+    let s = sessionWith First l cart in
+    printed-more c input s m
+    ∙ cases (eqb c 0x0a)
+    (λ e.
+    rw (took-end c s m e, e)
+    (ap (λ (f : FirstLine). begun f s m .text ++ printedBy input (begun f s m .session) (begun f s m .memory)) (first-said line) ∙ first-end (firstLine line) input s m))
+    (λ e. rw (took-char c s m e, e) (ap (λ (q : Line). printedBy input (sessionWith First q cart) m) (push-more emptyLine line c) ∙ starting input (line ++ (c ∷ [])) cart m))
+
+-- the whole program: for every input and whatever the buffer held
+pub whole : (input m : List ℕ) → printedBy input opened m ≡ carttrace input
+unfolding opened carttrace pushedAll
+whole input m = starting input [] (freshCart 0 _) m

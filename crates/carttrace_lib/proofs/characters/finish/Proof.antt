@@ -1,0 +1,46 @@
+use Rattle.carttrace_lib.specs.Session.{told}
+use Rattle.carttrace_lib.proofs.Heard.{finished-empty, finished-full}
+use mathlib.Core.Path.{_≡_}
+use native.Mathlib.Omega.{arith}
+use lib.ListN.{length}
+use Rattle.carttrace_lib.specs.Session.{lineEnded}
+use Rattle.carttrace_lib.proofs.Short.{ended-short}
+use mathlib.Core.Path.{refl, sym, _∙_}
+use mathlib.Core.List.{[]}
+use Rattle.lists.specs.Lists.{into}
+use Rattle.carttrace_lib.specs.Session.{heard}
+use Rattle.carttrace_lib.proofs.Heard.{tells}
+use borrow.Author.Needs.{needs}
+use Rattle.carttrace_lib.proofs.characters.finish.Statement.{statement}
+use Rattle.carttrace_lib.proofs.characters.finish.Tie as tie
+
+returns : tie.Need-returns
+unfolding into
+returns c =
+    let a = c .before .before .before .before .before .before .args in
+    let n : c .told-with .result .len ≡ 0 = λ i. c .told-with .ensures i .len in (
+      tells (heard [] (a .session) (a .memory .now)) (a .out .now) (c .told-with .ensures) refl refl refl
+          ∙ (λ i. told (sym (finished-empty (a .session) (a .memory .now) (sym (c .before .before .is-empty .ensures) ∙ c .before .if1 .taken)) i) (a .out .now)),
+      omega (arith, n),
+    )
+
+returns-2 : tie.Need-returns-2
+returns-2 c =
+    let a = c .before .before .before .before .before .before .before .before .before .before .before .before .args in
+    let n : c .before .before .before .before .end-line .result .len ≡ length (lineEnded (a .session) (a .memory .now) .text) = λ i. c .before .before .before .before .end-line .ensures i .0 .len in (
+      c .before .before .before .before .end-line .ensures
+          ∙ (λ i. told (sym (finished-full (a .session) (a .memory .now) (sym (c .before .before .before .before .before .before .before .before .is-empty .ensures) ∙ c .before .before .before .before .before .before .before .if1 .left)) i) (a .out .now)),
+      omega (arith, n, ended-short (a .session) (a .memory .now), c .before .before .before .before .before .before .before .before .before .before .before .before .pre),
+    )
+
+pub finish-spec : {M : Type 1} → statement M
+finish-spec =
+    tie.close
+    (tie.spec
+    (λ c κs. search needs)
+    (λ c κs. search needs)
+    returns
+    (λ c κs. search needs)
+    (λ c. search needs)
+    (λ c. search needs)
+    returns-2)

@@ -1,0 +1,157 @@
+// The characters of the input, one after the other.
+
+use crate::Session;
+use crate::Stage;
+use crate::Told;
+use crate::one_frame::play;
+use crate::one_frame::print_status;
+use cart::Cartridge;
+use cart::fresh_cart;
+use frames::FirstLine;
+use frames::Line;
+use frames::empty_line;
+use frames::first_in;
+use frames::frame_in;
+use frames::push;
+use kind::SaveType;
+use kind::memory_size;
+use memory::erase;
+ghost use mathlib.Core.Path.{_≡_};
+ghost use Prim.Native.Nat.{_*_, _≤_};
+ghost use lib.ListN.{length};
+ghost use Rattle.carttrace_lib.specs.Session.{sessionWith, opened as opened·spec, begun, continued, lineEnded, took, tookAll, finished, isEmpty, toldWith, told};
+
+fn session_with(stage: Stage, line: Line, cart: Cartridge) -> Session
+    ensures { λ r. ⌜ r ≡ sessionWith stage line cart ⌝ }
+{
+    Session {
+        stage: stage,
+        line: line,
+        cart: cart,
+    }
+}
+
+fn told_with(session: Session, len: usize) -> Told
+    ensures { λ r. ⌜ r ≡ toldWith session len ⌝ }
+{
+    Told {
+        session: session,
+        len: len,
+    }
+}
+
+pub fn opened() -> Session
+    ensures { λ r. ⌜ r ≡ opened·spec ⌝ }
+{
+    session_with(Stage::First, empty_line(), fresh_cart(0, SaveType::None))
+}
+
+// Line 1 at its end.
+fn begin(first: FirstLine, session: Session, memory: &mut [u8], out: &mut [u8]) -> Told
+    requires { ⌜ 131072 ≤ length (now memory) ⌝ }
+    requires { ⌜ 39 ≤ length (now out) ⌝ }
+    ensures { λ r. ⌜ (r, now (memory .exit), now (out .exit)) ≡ told (begun first session (now (memory .entry))) (now (out .entry)) ⌝ }
+{
+    match first {
+        FirstLine::Fresh(kind) => {
+            let n = memory_size(kind);
+            erase(&mut memory[..n]);
+            told_with(
+                session_with(Stage::Playing, empty_line(), fresh_cart(192, kind)),
+                print_status(out, 0),
+            )
+        }
+        FirstLine::NoKind => {
+            let cart = session.cart;
+            told_with(
+                session_with(Stage::Over, empty_line(), cart),
+                print_status(out, 0xFF),
+            )
+        }
+    }
+}
+
+// A later line at its end.
+fn go_on(session: Session, memory: &mut [u8], out: &mut [u8]) -> Told
+    requires { ⌜ 131072 ≤ length (now memory) ⌝ }
+    requires { ⌜ 39 ≤ length (now out) ⌝ }
+    ensures { λ r. ⌜ (r, now (memory .exit), now (out .exit)) ≡ told (continued session (now (memory .entry))) (now (out .entry)) ⌝ }
+{
+    let cart = session.cart;
+    let line = session.line;
+    let kind = cart.kind;
+    let n = memory_size(kind);
+    let p = play(frame_in(line), cart, &mut memory[..n], out);
+    let next = p.cart;
+    told_with(session_with(Stage::Playing, empty_line(), next), p.len)
+}
+
+fn end_line(session: Session, memory: &mut [u8], out: &mut [u8]) -> Told
+    requires { ⌜ 131072 ≤ length (now memory) ⌝ }
+    requires { ⌜ 39 ≤ length (now out) ⌝ }
+    ensures { λ r. ⌜ (r, now (memory .exit), now (out .exit)) ≡ told (lineEnded session (now (memory .entry))) (now (out .entry)) ⌝ }
+{
+    let stage = session.stage;
+    let line = session.line;
+    match stage {
+        Stage::First => begin(first_in(line), session, memory, out),
+        Stage::Playing => go_on(session, memory, out),
+        Stage::Over => told_with(session, 0),
+    }
+}
+
+fn take_in(session: Session, c: u8, memory: &mut [u8], out: &mut [u8]) -> Told
+    requires { ⌜ 131072 ≤ length (now memory) ⌝ }
+    requires { ⌜ 39 ≤ length (now out) ⌝ }
+    ensures { λ r. ⌜ (r, now (memory .exit), now (out .exit)) ≡ told (took session c (now (memory .entry))) (now (out .entry)) ⌝ }
+{
+    if c == 0x0A {
+        return end_line(session, memory, out);
+    }
+    let stage = session.stage;
+    let line = session.line;
+    let cart = session.cart;
+    told_with(session_with(stage, push(line, c), cart), 0)
+}
+
+// A piece of the input; what it prints goes to the front of the output.
+pub fn feed(session: Session, input: &[u8], memory: &mut [u8], out: &mut [u8]) -> Told
+    requires { ⌜ 131072 ≤ length (now memory) ⌝ }
+    requires { ⌜ 39 * length (now input) ≤ length (now out) ⌝ }
+    ensures { λ r. ⌜ (r, now (memory .exit), now (out .exit)) ≡ told (tookAll (now (input .entry)) session (now (memory .entry))) (now (out .entry)) ⌝ }
+    ensures { λ r. ⌜ r .len ≤ length (now (out .entry)) ⌝ }
+{
+    let mut s = session;
+    let mut len = 0;
+    let mut i = 0;
+    while i < input.len() {
+        let t = take_in(s, input[i], memory, &mut out[len..]);
+        s = t.session;
+        len += t.len;
+        i += 1;
+    }
+    told_with(s, len)
+}
+
+// Behind the whole input: a last line without a line feed.
+pub fn finish(session: Session, memory: &mut [u8], out: &mut [u8]) -> Told
+    requires { ⌜ 131072 ≤ length (now memory) ⌝ }
+    requires { ⌜ 39 ≤ length (now out) ⌝ }
+    ensures { λ r. ⌜ (r, now (memory .exit), now (out .exit)) ≡ told (finished session (now (memory .entry))) (now (out .entry)) ⌝ }
+    ensures { λ r. ⌜ r .len ≤ length (now (out .entry)) ⌝ }
+{
+    let line = session.line;
+    if is_empty(line) {
+        return told_with(session, 0);
+    }
+    end_line(session, memory, out)
+}
+
+fn is_empty(l: Line) -> bool
+    ensures { λ r. ⌜ r ≡ isEmpty l ⌝ }
+{
+    if !l.good {
+        return false;
+    }
+    l.count == 0
+}

@@ -1,0 +1,100 @@
+// A frame as a call, and its answer as a line.
+
+use crate::Played;
+use byte_calls::save_read;
+use byte_calls::save_write;
+use cart::Cartridge;
+use cart::Reply;
+use frames::Frame;
+use frames::print_line;
+use serial_calls::eeprom_begin_dma;
+use serial_calls::eeprom_read;
+use serial_calls::eeprom_write;
+use state_calls::StateAnswer;
+use state_calls::chip_state;
+use state_calls::take_save_dirty;
+ghost use mathlib.Core.Path.{_≡_};
+ghost use mathlib.Core.List.{[]};
+ghost use Prim.Native.Nat.{_≤_};
+ghost use lib.ListN.{length};
+ghost use Rattle.lists.specs.Lists.{into};
+ghost use Rattle.cart.specs.Replies.{state};
+ghost use Rattle.frames.specs.Frames.{lineOf};
+ghost use Rattle.carttrace_lib.specs.Trace.{play as play·spec, statusLine, valueLine, stateLine, written, playedWith, left, shown};
+
+// A status alone.
+pub fn print_status(out: &mut [u8], status: u8) -> usize
+    requires { ⌜ 3 ≤ length (now out) ⌝ }
+    ensures { λ r. ⌜ (r, now (out .exit)) ≡ written (lineOf status []) (now (out .entry)) ⌝ }
+{
+    print_line(out, status, b"")
+}
+
+// 00 and the byte that a call answers, or its refusal.
+fn print_value(out: &mut [u8], reply: Reply) -> usize
+    requires { ⌜ 39 ≤ length (now out) ⌝ }
+    ensures { λ r. ⌜ (r, now (out .exit)) ≡ written (valueLine reply) (now (out .entry)) ⌝ }
+{
+    if reply.refusal != 0 {
+        return print_status(out, reply.refusal);
+    }
+    let one = [(reply.value % 256) as u8];
+    print_line(out, 0, &one)
+}
+
+fn print_state(out: &mut [u8], state: StateAnswer) -> usize
+    requires { ⌜ 39 ≤ length (now out) ⌝ }
+    requires { ⌜ length (state .bytes) ≡ 18 ⌝ }
+    ensures { λ r. ⌜ (r, now (out .exit)) ≡ written (stateLine state) (now (out .entry)) ⌝ }
+{
+    if state.refusal != 0 {
+        return print_status(out, state.refusal);
+    }
+    let bytes = state.bytes;
+    print_line(out, 0, &bytes)
+}
+
+fn played_with(cart: Cartridge, len: usize) -> Played
+    ensures { λ r. ⌜ r ≡ playedWith cart len ⌝ }
+{
+    Played {
+        cart: cart,
+        len: len,
+    }
+}
+
+fn show_status(reply: Reply, out: &mut [u8]) -> Played
+    requires { ⌜ 39 ≤ length (now out) ⌝ }
+    ensures { λ r. ⌜ (r, now (out .exit)) ≡ left (reply .cart) (statusLine reply) (now (out .entry)) ⌝ }
+{
+    let cart = reply.cart;
+    played_with(cart, print_status(out, reply.refusal))
+}
+
+fn show_value(reply: Reply, out: &mut [u8]) -> Played
+    requires { ⌜ 39 ≤ length (now out) ⌝ }
+    ensures { λ r. ⌜ (r, now (out .exit)) ≡ left (reply .cart) (valueLine reply) (now (out .entry)) ⌝ }
+{
+    let cart = reply.cart;
+    played_with(cart, print_value(out, reply))
+}
+
+// The call that a frame names.
+pub fn play(frame: Frame, cart: Cartridge, memory: &mut [u8], out: &mut [u8]) -> Played
+    requires { ⌜ 39 ≤ length (now out) ⌝ }
+    ensures { λ r. ⌜ (r, now (memory .exit), now (out .exit)) ≡ shown (play·spec frame (state cart (now (memory .entry)))) (now (out .entry)) ⌝ }
+{
+    match frame {
+        Frame::SaveRead(address) => show_value(save_read(cart, memory, address), out),
+        Frame::SaveWrite(address, value) => show_status(
+            save_write(cart, memory, address, value),
+            out,
+        ),
+        Frame::EepromRead => show_value(eeprom_read(cart, memory), out),
+        Frame::EepromWrite(value) => show_status(eeprom_write(cart, memory, value), out),
+        Frame::BeginDma(words) => show_status(eeprom_begin_dma(cart, words as usize), out),
+        Frame::TakeFlag => show_value(take_save_dirty(cart), out),
+        Frame::ChipState => played_with(cart, print_state(out, chip_state(cart))),
+        Frame::Bad => played_with(cart, print_status(out, 0xFF)),
+    }
+}

@@ -1,0 +1,37 @@
+-- The thin call is the plain one. Assumes nothing.
+use mathlib.Core.Path.{_≡_, refl, sym}
+use mathlib.Core.Logic.{_≢_}
+use mathlib.Core.Bool.{Bool}
+use mathlib.Core.List.{List, []}
+use Prim.Native.Nat.{ℕ}
+use lib.Dec.{eqb}
+use Rattle.lists.specs.Questions.{asked}
+use Rattle.lists.proofs.Bools.{split, either}
+use Rattle.kind.specs.declared.SaveType.{SaveType}
+use Rattle.cart.specs.declared.ChipRecord.{ChipRecord}
+use Rattle.cart.specs.Record.{State, Outcome}
+use Rattle.cart.specs.Calls.{eepromWrite, questions, accepted, step}
+use Rattle.cart.specs.Replies.{state, replied}
+use Rattle.chip_by_reference.specs.Lent.{cartFrom, apart, together}
+use Rattle.chip_by_reference.specs.Claims.{ThinCall}
+
+module _ (len : ℕ) (kind : SaveType) (dirty : Bool) (chip : ChipRecord) (m : List ℕ) (v : ℕ) where
+  abbrev s : State
+  s = state (cartFrom len kind dirty chip) m
+
+  abbrev allowed : Bool
+  allowed = eqb (asked (questions (eepromWrite v) [] s)) 0
+
+  -- accepted, the image's length and the kind stay, and no number is answered; refused, all stays
+  same-plain : together len kind (apart (replied (step (eepromWrite v) [] s))) ≡ replied (step (eepromWrite v) [] s)
+  unfolding step accepted
+  same-plain = either (λ (o : Outcome). together len kind (apart (replied o)) ≡ replied o) allowed refl refl
+
+  refused-leaves : (n : ℕ) → n ≢ 0 → step (eepromWrite v) [] s .refusal ≡ n → apart (replied (step (eepromWrite v) [] s)) ≡ (record { refusal = n; dirty = dirty }, chip, m)
+  unfolding step accepted
+  refused-leaves n h =
+      split (λ (o : Outcome). o .refusal ≡ n → apart (replied o) ≡ (record { refusal = n; dirty = dirty }, chip, m)) allowed (λ t e. absurd (h (sym e))) (λ t e. rw e)
+
+pub thin-call : (len : ℕ) (kind : SaveType) (dirty : Bool) (chip : ChipRecord) (m : List ℕ) (v : ℕ) → ThinCall len kind dirty chip m v
+thin-call len kind dirty chip m v =
+    record { samePlain = same-plain len kind dirty chip m v; refusedLeaves = refused-leaves len kind dirty chip m v }

@@ -1,0 +1,35 @@
+-- What the program `cuttrace` prints: a line for each line but a cut's, and behind them the file and the 18 bytes.
+use mathlib.Core.Bool.{cond}
+use mathlib.Core.List.{List, [], _∷_, _++_}
+use Prim.Native.Nat.{ℕ, _%_}
+use lib.Dec.{eqb}
+use lib.ListN.{take, drop}
+use Rattle.kind.specs.declared.SaveType.{SaveType}
+use Rattle.kind.specs.Kind.{memorySize}
+use Rattle.frames.specs.declared.FirstLine.{FirstLine}
+use Rattle.frames.specs.declared.FirstLine.the-variants.{Fresh, NoKind}
+use Rattle.frames.specs.Frames.{firstLine, lineOf}
+use Rattle.carttrace_lib.specs.Trace.{linesFrom}
+use Rattle.replay.specs.Replay.{replay}
+use Rattle.cuttrace_lib.specs.Lines.{listOf}
+use Rattle.cuttrace_lib.specs.Printing.{linesText}
+use Rattle.cuttrace_lib.specs.Setup.{imageOf, prelude, preludeRoom}
+
+-- what a replay answered, printed: its refusal alone, or `00` for line 1 and then an answer for each other line
+unfoldable pub replayText : SaveType → List (List ℕ) → ℕ × List ℕ × List ℕ × List ℕ → List ℕ
+replayText kind lines r =
+    cond (eqb (r .0) 0) (lineOf 0 [] ++ linesText (memorySize kind) lines (drop (preludeRoom kind) (r .3))) (lineOf (r .0 % 256) [])
+
+-- the lines behind line 1, with a memory, a scratch and room for the answers
+unfoldable pub playFrom : FirstLine → List (List ℕ) → List ℕ → List ℕ → List ℕ → List ℕ
+playFrom NoKind lines memory scratch answers = lineOf 0xff []
+playFrom (Fresh kind) lines memory scratch answers =
+    let n = memorySize kind in
+    replayText kind lines (replay (imageOf kind) (prelude kind ++ listOf lines) (take n memory) (take n scratch) answers)
+
+unfoldable pub playLines : List (List ℕ) → List ℕ → List ℕ → List ℕ → List ℕ
+playLines [] memory scratch answers = []
+playLines (line ∷ lines) memory scratch answers = playFrom (firstLine line) lines memory scratch answers
+
+unfoldable pub cuttrace : List ℕ → List ℕ → List ℕ → List ℕ → List ℕ
+cuttrace input memory scratch answers = playLines (linesFrom [] input) memory scratch answers

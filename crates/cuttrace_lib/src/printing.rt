@@ -1,0 +1,104 @@
+// Answers as lines.
+use crate::lines::line_length;
+use crate::lines::read_line;
+use call_list::Item;
+use call_list::item_room;
+use frames::print_line;
+use lists::low32;
+ghost use mathlib.Core.Path.{_≡_};
+ghost use mathlib.Core.List.{[]};
+ghost use Prim.Native.Nat.{_+_, _*_, _≤_, min};
+ghost use lib.ListN.{length};
+ghost use Rattle.lists.specs.Lists.{into};
+ghost use Rattle.carttrace_lib.specs.Trace.{linesFrom};
+ghost use Rattle.cuttrace_lib.specs.Printing.{answerText, itemText, fileText, endingText, linesText, linesRoom};
+
+// A status alone where it is a refusal, else with the bytes behind it.
+fn print_answer(answer: &[u8], out: &mut [u8]) -> usize
+    requires { ⌜ 2 * length (now answer) + 3 ≤ length (now out) ⌝ }
+    ensures { λ r. ⌜ (r ≡ length (answerText (now (answer .entry)))) × (now (out .exit) ≡ into (answerText (now (answer .entry))) (now (out .entry))) ⌝ }
+{
+    if answer.len() == 0 {
+        return 0;
+    }
+    if answer[0] != 0 {
+        return print_line(out, answer[0], b"");
+    }
+    print_line(out, 0, &answer[1..])
+}
+
+// A bad line answers FF, a cut nothing.
+fn print_item(item: Item, answer: &[u8], out: &mut [u8]) -> usize
+    requires { ⌜ 2 * length (now answer) + 3 ≤ length (now out) ⌝ }
+    ensures { λ r. ⌜ (r ≡ length (itemText item (now (answer .entry)))) × (now (out .exit) ≡ into (itemText item (now (answer .entry))) (now (out .entry))) ⌝ }
+{
+    if let Item::Bad = item {
+        return print_line(out, 0xFF, b"");
+    }
+    print_answer(answer, out)
+}
+
+fn least(a: usize, b: usize) -> usize
+    ensures { λ r. ⌜ r ≡ min a b ⌝ }
+{
+    if a < b {
+        return a;
+    }
+    b
+}
+
+// The file that stands behind a status and its length.
+fn print_file(answer: &[u8], out: &mut [u8]) -> usize
+    requires { ⌜ 5 ≤ length (now answer) ⌝ }
+    requires { ⌜ 2 * length (now answer) + 3 ≤ length (now out) ⌝ }
+    ensures { λ r. ⌜ (r ≡ length (fileText (now (answer .entry)))) × (now (out .exit) ≡ into (fileText (now (answer .entry))) (now (out .entry))) ⌝ }
+{
+    if answer[0] != 0 {
+        return print_line(out, answer[0], b"");
+    }
+    let n = low32(answer[4], answer[3], answer[2], answer[1]) as usize;
+    let end = 5 + least(n, answer.len() - 5);
+    print_line(out, 0, &answer[5..end])
+}
+
+// What stands behind the last item's answer: the file, and the 18 bytes.
+fn print_ending(memory: usize, ending: &[u8], out: &mut [u8]) -> usize
+    requires { ⌜ length (now ending) ≡ 24 + memory ⌝ }
+    requires { ⌜ 2 * length (now ending) + 6 ≤ length (now out) ⌝ }
+    ensures { λ r. ⌜ (r ≡ length (endingText memory (now (ending .entry)))) × (now (out .exit) ≡ into (endingText memory (now (ending .entry))) (now (out .entry))) ⌝ }
+{
+    let middle = 5 + memory;
+    let n = print_file(&ending[..middle], out);
+    n + print_answer(&ending[middle..], &mut out[n..])
+}
+
+// The answers to the lines of a text, one behind the other, and what comes behind them for a memory of so many bytes. The room is used
+// for a line's bytes.
+pub fn print_lines(
+    text: &[u8],
+    memory: usize,
+    room: &mut [u8],
+    answers: &[u8],
+    out: &mut [u8],
+) -> usize
+    requires { ⌜ length (now text) ≤ 131072 ⌝ }
+    requires { ⌜ memory ≤ 131072 ⌝ }
+    requires { ⌜ length (now text) ≤ 2 * length (now room) ⌝ }
+    requires { ⌜ linesRoom (linesFrom [] (now text)) + (24 + memory) ≤ length (now answers) ⌝ }
+    requires { ⌜ 2 * length (now answers) + 3 * length (now text) + 9 ≤ length (now out) ⌝ }
+    ensures { λ r. ⌜ (r ≡ length (linesText memory (linesFrom [] (now (text .entry))) (now (answers .entry)))) × (now (out .exit) ≡ into (linesText memory (linesFrom [] (now (text .entry))) (now (answers .entry))) (now (out .entry))) ⌝ }
+{
+    let mut len = 0;
+    let mut at = 0;
+    let mut i = 0;
+    while i < text.len() {
+        let end = i + line_length(&text[i..]);
+        let item = read_line(&text[i..end], room);
+        let next = at + item_room(item);
+        len += print_item(item, &answers[at..next], &mut out[len..]);
+        at = next;
+        i = end + 1;
+    }
+    let end = at + 24 + memory;
+    len + print_ending(memory, &answers[at..end], &mut out[len..])
+}

@@ -1,0 +1,138 @@
+// A whole trace.
+use crate::lines::collect;
+use crate::lines::line_length;
+use crate::printing::print_lines;
+use crate::setup::first_kind;
+use crate::setup::prelude_room;
+use crate::setup::put_image;
+use crate::setup::put_prelude;
+use frames::FirstLine;
+use frames::print_line;
+use kind::SaveType;
+use kind::memory_size;
+use replay::gbasave_replay;
+ghost use mathlib.Core.Path.{_≡_};
+ghost use mathlib.Core.List.{[], _++_};
+ghost use Prim.Native.Nat.{_+_, _*_, _≤_};
+ghost use lib.ListN.{length, take, drop};
+ghost use Rattle.lists.specs.Lists.{into};
+ghost use Rattle.kind.specs.Kind.{memorySize};
+ghost use Rattle.frames.specs.Frames.{lineOf};
+ghost use Rattle.frames.specs.declared.FirstLine.the-variants.{Fresh};
+ghost use Rattle.carttrace_lib.specs.Trace.{linesFrom};
+ghost use Rattle.cuttrace_lib.specs.Lines.{listOf};
+ghost use Rattle.cuttrace_lib.specs.Printing.{linesText, linesRoom};
+ghost use Rattle.cuttrace_lib.specs.Setup.{prelude, preludeRoom};
+ghost use Rattle.cuttrace_lib.specs.Cuttrace.{playFrom, cuttrace};
+
+// The list goes to the front of the room; the answer is how long it is.
+fn put_list(kind: SaveType, text: &[u8], room: &mut [u8]) -> usize
+    requires { ⌜ length (now text) ≤ 131072 ⌝ }
+    requires { ⌜ 16394 + length (now text) ≤ 2 * length (now room) ⌝ }
+    ensures { λ r. ⌜ take r (now (room .exit)) ≡ prelude kind ++ listOf (linesFrom [] (now (text .entry))) ⌝ }
+    ensures { λ r. ⌜ r ≤ length (now (room .exit)) ⌝ }
+{
+    let begun = put_prelude(kind, room);
+    begun + collect(text, &mut room[begun..])
+}
+
+// What is printed where the replay is not refused.
+fn print_all(kind: SaveType, text: &[u8], room: &mut [u8], answers: &[u8], out: &mut [u8]) -> usize
+    requires { ⌜ length (now text) ≤ 131072 ⌝ }
+    requires { ⌜ length (now text) ≤ 2 * length (now room) ⌝ }
+    requires { ⌜ preludeRoom kind + (linesRoom (linesFrom [] (now text)) + (24 + memorySize kind)) ≤ length (now answers) ⌝ }
+    requires { ⌜ 2 * length (now answers) + 3 * length (now text) + 12 ≤ length (now out) ⌝ }
+    ensures { λ r. ⌜ (r ≡ length (lineOf 0 [] ++ linesText (memorySize kind) (linesFrom [] (now (text .entry))) (drop (preludeRoom kind) (now (answers .entry))))) × (now (out .exit) ≡ into (lineOf 0 [] ++ linesText (memorySize kind) (linesFrom [] (now (text .entry))) (drop (preludeRoom kind) (now (answers .entry)))) (now (out .entry))) ⌝ }
+{
+    let from = prelude_room(kind);
+    let n = print_line(out, 0, b"");
+    n
+        + print_lines(
+            text,
+            memory_size(kind),
+            room,
+            &answers[from..],
+            &mut out[n..],
+        )
+}
+
+// The lines behind line 1.
+fn play_lines(
+    kind: SaveType,
+    text: &[u8],
+    list: &mut [u8],
+    memory: &mut [u8],
+    scratch: &mut [u8],
+    answers: &mut [u8],
+    out: &mut [u8],
+) -> usize
+    requires { ⌜ length (now text) ≤ 131072 ⌝ }
+    requires { ⌜ 16394 + length (now text) ≤ 2 * length (now list) ⌝ }
+    requires { ⌜ 131072 ≤ length (now memory) ⌝ }
+    requires { ⌜ 131072 ≤ length (now scratch) ⌝ }
+    requires { ⌜ 2 * length (now answers) + 3 * length (now text) + 12 ≤ length (now out) ⌝ }
+    ensures { λ r. ⌜ (r ≡ length (playFrom (Fresh kind) (linesFrom [] (now (text .entry))) (now (memory .entry)) (now (scratch .entry)) (now (answers .entry)))) × (now (out .exit) ≡ into (playFrom (Fresh kind) (linesFrom [] (now (text .entry))) (now (memory .entry)) (now (scratch .entry)) (now (answers .entry))) (now (out .entry))) ⌝ }
+{
+    let mut image = [0u8; 192];
+    put_image(kind, &mut image);
+    let used = put_list(kind, text, list);
+    let n = memory_size(kind);
+    let refusal = gbasave_replay(
+        &image,
+        &list[..used],
+        &mut memory[..n],
+        &mut scratch[..n],
+        answers,
+    );
+    if refusal != 0 {
+        return print_line(out, (refusal % 256) as u8, b"");
+    }
+    print_all(kind, text, list, answers, out)
+}
+
+// Where the lines behind line 1 begin.
+fn behind(end: usize, text: &[u8]) -> usize
+    requires { ⌜ end ≤ length (now text) ⌝ }
+    ensures { λ r. ⌜ (r ≤ length (now (text .entry))) × (drop r (now (text .entry)) ≡ drop (end + 1) (now (text .entry))) ⌝ }
+{
+    if end < text.len() {
+        return end + 1;
+    }
+    end
+}
+
+// What a trace prints goes to the front of the output; the answer is how long it is.
+pub fn run_trace(
+    text: &[u8],
+    list: &mut [u8],
+    memory: &mut [u8],
+    scratch: &mut [u8],
+    answers: &mut [u8],
+    out: &mut [u8],
+) -> usize
+    requires { ⌜ length (now text) ≤ 131072 ⌝ }
+    requires { ⌜ 16394 + length (now text) ≤ 2 * length (now list) ⌝ }
+    requires { ⌜ 131072 ≤ length (now memory) ⌝ }
+    requires { ⌜ 131072 ≤ length (now scratch) ⌝ }
+    requires { ⌜ 2 * length (now answers) + 3 * length (now text) + 12 ≤ length (now out) ⌝ }
+    ensures { λ r. ⌜ (r ≡ length (cuttrace (now (text .entry)) (now (memory .entry)) (now (scratch .entry)) (now (answers .entry)))) × (now (out .exit) ≡ into (cuttrace (now (text .entry)) (now (memory .entry)) (now (scratch .entry)) (now (answers .entry))) (now (out .entry))) ⌝ }
+    ensures { λ r. ⌜ r ≤ length (now (out .entry)) ⌝ }
+{
+    if text.len() == 0 {
+        return 0;
+    }
+    let end = line_length(text);
+    let from = behind(end, text);
+    match first_kind(&text[..end]) {
+        FirstLine::Fresh(kind) => play_lines(
+            kind,
+            &text[from..],
+            list,
+            memory,
+            scratch,
+            answers,
+            out,
+        ),
+        FirstLine::NoKind => print_line(out, 0xFF, b""),
+    }
+}

@@ -1,0 +1,25 @@
+use Rattle.lists.proofs.Bools.{granted}
+use mathlib.Core.Path.{refl}
+use lib.Dec.{eqb}
+use lib.ListN.{getD}
+use Rattle.quick_tests.proofs.QuickTests.{never, usual-record}
+use borrow.Author.Needs.{needs}
+use Rattle.quick_tests.proofs.serial_usual.Statement.{statement}
+use Rattle.quick_tests.proofs.serial_usual.Tie as tie
+
+returns : tie.Need-returns
+returns c = λ e h. never e
+
+returns-2 : tie.Need-returns-2
+returns-2 c = λ e h. let r = c .before .before .before .before .before .args .r .now in usual-record r (c .before .before .before .before .fields-usual .ensures (granted _ refl (c .before .before .before .if1 .left))) (c .count-usual .ensures e (getD r 9 0) (eqb (getD r 10 0) 1)) h
+
+pub serial-usual-spec : {M : Type 1} → statement M
+serial-usual-spec =
+    tie.close
+    (tie.spec
+    (λ c κs. search needs)
+    returns
+    (λ c. search needs)
+    (λ c. search needs)
+    (λ c κs. search needs)
+    returns-2)

@@ -1,0 +1,35 @@
+use mathlib.Core.Path.{refl, sym, _∙_}
+use Rattle.lists.proofs.Bools.{granted}
+use Rattle.quick_tests.proofs.QuickTests.{never, rests-record}
+use borrow.Author.Needs.{needs}
+use Rattle.quick_tests.proofs.write_usual_in.Statement.{statement}
+use Rattle.quick_tests.proofs.write_usual_in.Tie as tie
+
+returns : tie.Need-returns
+returns c = λ e h. never e
+
+returns-2 : tie.Need-returns-2
+returns-2 c = λ e h. never e
+
+returns-3 : tie.Need-returns-3
+returns-3 c = λ e h. never e
+
+returns-4 : tie.Need-returns-4
+returns-4 c = λ e h.
+    let s = c .before .before .before .serial-rests .ensures (granted _ refl (c .before .before .if3 .left)) in
+    rests-record (c .before .before .before .before .before .before .before .before .before .args .bytes .now) (c .before .before .before .before .before .before .before .before .before .pre) (c .before .before .before .before .before .before .if1 .left)
+    (record { state = sym (c .state-allowed .ensures) ∙ e; bank = c .before .before .before .before .if2 .left; id = s .0 }) (s .1) h
+
+pub write-usual-in-spec : {M : Type 1} → statement M
+write-usual-in-spec =
+    tie.close
+    (tie.spec
+    (λ c. search needs)
+    returns
+    (λ c. search needs)
+    returns-2
+    (λ c κs. search needs)
+    returns-3
+    (λ c. search needs)
+    (λ c κs. search needs)
+    returns-4)

@@ -1,0 +1,212 @@
+// A frame's call and its answer, printed at the front of `out`.
+use crate::digits::byte;
+use crate::digits::bytes_of;
+use crate::digits::decode;
+use crate::digits::number;
+use crate::images::image_answer;
+use crate::kinds::Kind;
+use crate::kinds::fit;
+use crate::kinds::kind_of;
+use crate::kinds::size;
+use crate::made::make_file;
+use crate::rooms::at_most;
+use crate::rooms::file_room;
+use crate::rooms::line_room;
+use cart::Cartridge;
+use cart::Reply;
+use cart::fresh_cart;
+use crc::crc32;
+use file_calls::load_save;
+use file_calls::save_data;
+use frames::Frame;
+use frames::Line;
+use frames::empty_line;
+use frames::frame_in;
+use frames::print_line;
+use frames::push;
+use image::image_length;
+use kind::SaveType;
+use kind::memory_size;
+use memory::erase;
+use state_calls::restore_chip_state;
+use carttrace_lib::Played;
+use carttrace_lib::play;
+ghost use Prim.Native.Nat.{_≤_};
+ghost use lib.ListN.{length};
+
+fn played(cart: Cartridge, len: usize) -> Played {
+    Played {
+        cart: cart,
+        len: len,
+    }
+}
+
+// To a text that is no frame.
+fn no_answer(cart: Cartridge) -> Played {
+    played(cart, 0)
+}
+
+fn status(reply: Reply, out: &mut [u8]) -> Played
+    requires { ⌜ 256 ≤ length (now out) ⌝ }
+{
+    let cart = reply.cart;
+    played(cart, print_line(out, reply.refusal, b""))
+}
+
+fn line_of(frame: &[u8]) -> Line {
+    let mut l = empty_line();
+    let mut i = 0;
+    while i < frame.len() {
+        l = push(l, frame[i]);
+        i += 1;
+    }
+    l
+}
+
+fn is_bad(frame: Frame) -> bool {
+    if let Frame::Bad = frame { true } else { false }
+}
+
+// 01 to 07.
+fn trace_frame(text: &[u8], cart: Cartridge, memory: &mut [u8], out: &mut [u8]) -> Played
+    requires { ⌜ 256 ≤ length (now out) ⌝ }
+{
+    let frame = frame_in(line_of(text));
+    if is_bad(frame) {
+        return no_answer(cart);
+    }
+    play(frame, cart, memory, out)
+}
+
+fn load_made(
+    file: &mut [u8],
+    seed: u8,
+    cart: Cartridge,
+    memory: &mut [u8],
+    out: &mut [u8],
+) -> Played
+    requires { ⌜ 256 ≤ length (now out) ⌝ }
+{
+    make_file(file, seed);
+    status(load_save(cart, memory, file), out)
+}
+
+// 08 length (6) seed (2).
+fn load(s: &[u8], cart: Cartridge, memory: &mut [u8], out: &mut [u8]) -> Played
+    requires { ⌜ 256 ≤ length (now out) ⌝ }
+{
+    let len = (number(s, 0) % 16777216) as usize;
+    let mut file = file_room();
+    let n = at_most(len, &file);
+    if n != len {
+        return no_answer(cart);
+    }
+    load_made(&mut file[..n], byte(s, 4), cart, memory, out)
+}
+
+// 09.
+fn export(cart: Cartridge, memory: &[u8], out: &mut [u8]) -> Played
+    requires { ⌜ 256 ≤ length (now out) ⌝ }
+{
+    let mut file = file_room();
+    let reply = save_data(cart, memory, &mut file);
+    if reply.refusal != 0 {
+        return status(reply, out);
+    }
+    let n = at_most(reply.value as usize, &file);
+    let len = bytes_of(reply.value);
+    let crc = bytes_of(crc32(&file[..n]));
+    let answer = [len[1], len[2], len[3], crc[0], crc[1], crc[2], crc[3]];
+    played(cart, print_line(out, 0, &answer))
+}
+
+// 0A 18 bytes (36).
+fn restore(s: &[u8], cart: Cartridge, out: &mut [u8]) -> Played
+    requires { ⌜ 256 ≤ length (now out) ⌝ }
+{
+    if s.len() == 0 {
+        return no_answer(cart);
+    }
+    status(restore_chip_state(cart, &s[1..]), out)
+}
+
+fn opened(kind: SaveType, len: usize, cart: Cartridge, memory: &mut [u8], out: &mut [u8]) -> Played
+    requires { ⌜ 256 ≤ length (now out) ⌝ }
+{
+    if !image_length(len) {
+        return played(cart, print_line(out, 1, b""));
+    }
+    let n = at_most(memory_size(kind), memory);
+    erase(&mut memory[..n]);
+    played(fresh_cart(len, kind), print_line(out, 0, b""))
+}
+
+// 0B kind (2) image length (8).
+fn fresh(s: &[u8], cart: Cartridge, memory: &mut [u8], out: &mut [u8]) -> Played
+    requires { ⌜ 256 ≤ length (now out) ⌝ }
+{
+    if s.len() != 6 {
+        return no_answer(cart);
+    }
+    let kind = kind_of(byte(s, 1));
+    match kind {
+        Kind::Of(k) => opened(k, number(s, 2) as usize, cart, memory, out),
+        Kind::Nothing => no_answer(cart),
+    }
+}
+
+// How many bytes these frames have.
+fn frame_length(number: u8) -> usize {
+    match number {
+        0x08 => 5,
+        0x09 => 1,
+        0x0A => 19,
+        0x0C => 6,
+        0x0D => 2,
+        _ => 0,
+    }
+}
+
+// The frames 08 to 0D but 0B, as bytes.
+fn call(s: &[u8], cart: Cartridge, memory: &mut [u8], out: &mut [u8]) -> Played
+    requires { ⌜ 256 ≤ length (now out) ⌝ }
+{
+    let number = byte(s, 0);
+    if s.len() != frame_length(number) {
+        return no_answer(cart);
+    }
+    match number {
+        0x08 => load(s, cart, memory, out),
+        0x09 => export(cart, memory, out),
+        0x0A => restore(s, cart, out),
+        0x0C => played(cart, fit(s, out)),
+        0x0D => played(cart, size(s, out)),
+        _ => no_answer(cart),
+    }
+}
+
+// A frame as text and as bytes, with the memory of the record's kind.
+fn frame_answer(text: &[u8], s: &[u8], cart: Cartridge, memory: &mut [u8], out: &mut [u8]) -> Played
+    requires { ⌜ 256 ≤ length (now out) ⌝ }
+{
+    let number = byte(s, 0);
+    match number {
+        0x01..=0x07 => trace_frame(text, cart, memory, out),
+        0x10 => played(cart, image_answer(s, out)),
+        _ => call(s, cart, memory, out),
+    }
+}
+
+pub fn answer(text: &[u8], cart: Cartridge, memory: &mut [u8], out: &mut [u8]) -> Played
+    requires { ⌜ 256 ≤ length (now out) ⌝ }
+{
+    let mut bytes = line_room();
+    let count = decode(&mut bytes, text);
+    let s = &bytes[..count];
+    if byte(s, 0) == 0x0B {
+        return fresh(s, cart, memory, out);
+    }
+    let kind = cart.kind;
+    let n = at_most(memory_size(kind), memory);
+    frame_answer(text, s, cart, &mut memory[..n], out)
+}

@@ -1,0 +1,67 @@
+// What is asked of a kind.
+use crate::digits::byte;
+use crate::digits::bytes_of;
+use crate::digits::number;
+use file_sizes::SaveFit;
+use file_sizes::save_fit;
+use file_sizes::save_size;
+use frames::print_line;
+use kind::SaveType;
+ghost use Prim.Native.Nat.{_≤_};
+ghost use lib.ListN.{length};
+
+// A kind by its number.
+pub enum Kind {
+    Of(SaveType),
+    Nothing,
+}
+
+pub fn kind_of(number: u8) -> Kind {
+    match number {
+        0 => Kind::Of(SaveType::None),
+        1 => Kind::Of(SaveType::Sram),
+        2 => Kind::Of(SaveType::Flash64),
+        3 => Kind::Of(SaveType::Flash128),
+        4 => Kind::Of(SaveType::Eeprom512),
+        5 => Kind::Of(SaveType::Eeprom8k),
+        _ => Kind::Nothing,
+    }
+}
+
+fn print_number(x: u32, out: &mut [u8]) -> usize
+    requires { ⌜ 256 ≤ length (now out) ⌝ }
+{
+    let answer = bytes_of(x);
+    print_line(out, 0, &answer)
+}
+
+fn print_fit(fit: SaveFit, out: &mut [u8]) -> usize
+    requires { ⌜ 256 ≤ length (now out) ⌝ }
+{
+    match fit {
+        SaveFit::Keeps(n) => print_number((n % 4294967296) as u32, out),
+        SaveFit::Refused => print_line(out, 14, b""),
+    }
+}
+
+// 0C kind (2) length (8).
+pub fn fit(s: &[u8], out: &mut [u8]) -> usize
+    requires { ⌜ 256 ≤ length (now out) ⌝ }
+{
+    let kind = kind_of(byte(s, 1));
+    match kind {
+        Kind::Of(k) => print_fit(save_fit(k, number(s, 2) as usize), out),
+        Kind::Nothing => 0,
+    }
+}
+
+// 0D kind (2).
+pub fn size(s: &[u8], out: &mut [u8]) -> usize
+    requires { ⌜ 256 ≤ length (now out) ⌝ }
+{
+    let kind = kind_of(byte(s, 1));
+    match kind {
+        Kind::Of(k) => print_number((save_size(k) % 4294967296) as u32, out),
+        Kind::Nothing => 0,
+    }
+}

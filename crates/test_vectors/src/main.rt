@@ -1,0 +1,191 @@
+// Vectors of the image's side, each with its answer: what a reader holds against a book or another program.
+use crc::crc32;
+use file_sizes::SaveFit;
+use file_sizes::save_fit;
+use file_sizes::save_size;
+use kind::SaveType;
+use kind::detect_save_type;
+use lists::copy;
+use title::header_title;
+ghost use Prim.Native.Nat.{_+_, _≤_};
+ghost use lib.ListN.{length};
+
+fn print(text: &[u8]) {
+    io::write_all(1, text);
+}
+
+fn print_byte(b: u8) {
+    let digits = [hex::character(b / 16), hex::character(b % 16)];
+    print(&digits);
+}
+
+fn print_bytes(s: &[u8]) {
+    let mut i = 0;
+    while i < s.len() {
+        print_byte(s[i]);
+        i += 1;
+    }
+}
+
+fn print_kind(kind: SaveType) {
+    match kind {
+        SaveType::None => print(b"None"),
+        SaveType::Sram => print(b"Sram"),
+        SaveType::Flash64 => print(b"Flash64"),
+        SaveType::Flash128 => print(b"Flash128"),
+        SaveType::Eeprom512 => print(b"Eeprom512"),
+        SaveType::Eeprom8k => print(b"Eeprom8k"),
+    }
+}
+
+fn put(image: &mut [u8], place: usize, text: &[u8])
+    requires { ⌜ place + length (now text) ≤ length (now image) ⌝ }
+{
+    copy(&mut image[place..], text);
+}
+
+fn crc(text: &[u8]) {
+    print(b"crc ");
+    print(text);
+    print(b": ");
+    let c = crc32(text);
+    print_byte(((c >> 24) % 256) as u8);
+    print_byte(((c >> 16) % 256) as u8);
+    print_byte(((c >> 8) % 256) as u8);
+    print_byte((c % 256) as u8);
+    print(b"\n");
+}
+
+// Twelve title bytes, the title's length, and a destination that was 36 bytes 2Eh.
+fn title(bytes: &[u8])
+    requires { ⌜ length (now bytes) ≤ 12 ⌝ }
+{
+    let mut image = [0u8; 192];
+    put(&mut image, 0xA0, bytes);
+    let mut destination = [0x2Eu8; 36];
+    let answer = header_title(&image, &mut destination);
+    print(b"title ");
+    print_bytes(bytes);
+    print(b": ");
+    io::print_decimal(1, answer.value as u64);
+    print(b" ");
+    print_bytes(&destination);
+    print(b"\n");
+}
+
+// An image of 256 zeros with a text at a place, and its kind.
+fn image_with(place: usize, text: &[u8])
+    requires { ⌜ place + length (now text) ≤ 256 ⌝ }
+{
+    let mut image = [0u8; 256];
+    put(&mut image, place, text);
+    print(b"kind ");
+    print(text);
+    print(b" at ");
+    io::print_decimal(1, place as u64);
+    print(b": ");
+    print_kind(detect_save_type(&image));
+    print(b"\n");
+}
+
+fn fit(kind: SaveType, file: usize) {
+    print(b" ");
+    io::print_decimal(1, file as u64);
+    let answer = save_fit(kind, file);
+    match answer {
+        SaveFit::Keeps(n) => {
+            print(b">");
+            io::print_decimal(1, n as u64);
+        }
+        SaveFit::Refused => print(b"-"),
+    }
+}
+
+// The lengths around a size and around it with a footer.
+fn fits(kind: SaveType, size: usize)
+    requires { ⌜ (1 ≤ size) × (size ≤ 131072) ⌝ }
+{
+    fit(kind, size - 1);
+    fit(kind, size);
+    fit(kind, size + 1);
+    fit(kind, size + 15);
+    fit(kind, size + 16);
+    fit(kind, size + 17);
+}
+
+fn sizes(kind: SaveType) {
+    print(b"fit ");
+    print_kind(kind);
+    print(b", size ");
+    io::print_decimal(1, save_size(kind) as u64);
+    print(b":");
+    fit(kind, 0);
+    fits(kind, 512);
+    fits(kind, 8192);
+    fits(kind, 32768);
+    fits(kind, 65536);
+    fits(kind, 131072);
+    print(b"\n");
+}
+
+fn crcs() {
+    crc(b"");
+    crc(b"123456789");
+}
+
+// The Unicode Standard's tables 3-8 to 3-11, titles whose sequences are cut off by the end, zeros inside and at the end.
+fn titles() {
+    title(b"\xC0\xAF\xE0\x80\xBF\xF0\x81\x82\x41\0\0\0");
+    title(b"\xED\xA0\x80\xED\xBF\xBF\xED\xAF\x41\0\0\0");
+    title(b"\xF4\x91\x92\x93\xFF\x41\x80\xBF\x42\0\0\0");
+    title(b"\xE1\x80\xE2\xF0\x91\x92\xF1\xBF\x41\0\0\0");
+    title(b"\xC3\xA9\xE2\x82\xAC\xF0\x9F\x8E\xAE\0\0\0");
+    title(b"\xF0\x8F\xBF\xBF\xF5\x80\x80\x80\xF4\x8F\xBF\xBF");
+    title(b"0123456789A\xC2");
+    title(b"0123456789\xE1\x80");
+    title(b"012345678\xF1\x80\x80");
+    title(b"\xFF\xFF\xFF\xFF\xFF\xFF\xFF\xFF\xFF\xFF\xFF\xFF");
+    title(b"AB\0C\0\0\0\0\0\0\0\0");
+    title(b"\0\0\0\0\0\0\0\0\0\0\0\0");
+}
+
+// Markers at both ends and one byte off, their order, game codes and the title.
+fn markers() {
+    image_with(0, b"SRAM_V");
+    image_with(250, b"SRAM_V");
+    image_with(251, b"SRAM_");
+    image_with(1, b"RAM_V");
+    image_with(100, b"SRASRAM_V");
+    image_with(0, b"FLASH_V");
+    image_with(246, b"FLASH512_V");
+    image_with(247, b"FLASH512_");
+    image_with(247, b"FLASH1M_V");
+    image_with(248, b"EEPROM_V");
+    image_with(0, b"EEPROM_VFLASH1M_VFLASH_VSRAM_V");
+    image_with(0, b"EEPROM_VFLASH1M_VFLASH512_V");
+    image_with(0, b"EEPROM_VFLASH1M_V");
+    image_with(0xAC, b"GBXPEEPROM_V");
+    image_with(0xAC, b"GBXJ");
+    image_with(0xAC, b"GBXE");
+    image_with(0xAC, b"GBXK");
+    image_with(0xAB, b"GBXE");
+    image_with(0xAC, b"GB4PSRAM_V");
+    image_with(0xAC, b"GB4J");
+    image_with(0xAC, b"GB4E");
+    image_with(0xA0, b"POKEMON RUBY");
+    image_with(0xA0, b"POKEMON RUBYEEPROM_V");
+    image_with(0xA0, b"POKEMON RUB");
+    image_with(0x9F, b"POKEMON RUBY");
+}
+
+fn main() {
+    crcs();
+    titles();
+    markers();
+    sizes(SaveType::None);
+    sizes(SaveType::Sram);
+    sizes(SaveType::Flash64);
+    sizes(SaveType::Flash128);
+    sizes(SaveType::Eeprom512);
+    sizes(SaveType::Eeprom8k);
+}
