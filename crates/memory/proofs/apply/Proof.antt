@@ -2,7 +2,7 @@
 use mathlib.Core.Path.{ap, sym, _∙_}
 use lib.ListN.{length}
 use Rattle.memory.specs.declared.Store.{Store}
-use Rattle.memory.specs.declared.Store.the-variants.{Byte, Block, Sector}
+use Rattle.memory.specs.declared.Store.the-variants.{Byte, Block, Sector, File}
 use Rattle.memory.specs.Memory.{stored}
 use Rattle.memory.proofs.Memory.{fits-case}
 use borrow.Author.Needs.{needs}
@@ -11,35 +11,56 @@ use Rattle.memory.proofs.apply.Tie as tie
 
 put-byte-requires : tie.Need-put-byte-requires
 put-byte-requires c κs =
+    let s = c .before .before .before .before .before .before in
     let g = c .before .before .store .given in
-    fits-case (c .before .before .before .before .before .args .store) (Byte (g .0 .0) (g .0 .1 .0)) (length (c .before .before .before .before .before .args .memory .now)) (g .1) (c .before .before .before .before .before .pre)
+    fits-case (s .args .store) (Byte (g .0 .0) (g .0 .1 .0)) (length (s .args .memory .now)) (g .1) (s .pre)
 
 put-block-requires : tie.Need-put-block-requires
 put-block-requires c κs =
+    let s = c .before .before .before .before .before .before in
     let g = c .before .before .store2 .given in
-    fits-case (c .before .before .before .before .before .args .store) (Block (g .0 .0) (g .0 .1 .0)) (length (c .before .before .before .before .before .args .memory .now)) (g .1) (c .before .before .before .before .before .pre)
+    fits-case (s .args .store) (Block (g .0 .0) (g .0 .1 .0)) (length (s .args .memory .now)) (g .1) (s .pre)
 
 erase-sector-requires : tie.Need-erase-sector-requires
 erase-sector-requires c κs =
+    let s = c .before .before .before .before .before .before in
     let g = c .before .before .store3 .given in
-    fits-case (c .before .before .before .before .before .args .store) (Sector (g .0 .0)) (length (c .before .before .before .before .before .args .memory .now)) (g .1) (c .before .before .before .before .before .pre)
+    fits-case (s .args .store) (Sector (g .0 .0)) (length (s .args .memory .now)) (g .1) (s .pre)
+
+load-requires : tie.Need-load-requires
+load-requires c κs =
+    let s = c .before .before .before .before .before in
+    fits-case (s .args .store) File (length (s .args .memory .now)) (c .before .enum-told3 .given .1) (s .pre)
 
 returns : tie.Need-returns
 unfolding stored
 returns c = rw (c .enum-told .given .1)
 
 returns-2 : tie.Need-returns-2
-returns-2 c = c .before .before .put-byte .ensures ∙ ap (λ (s : Store). stored s (c .before .before .before .before .before .before .before .before .args .memory .now)) (sym (c .before .before .before .before .before .store .given .1))
+unfolding stored
+returns-2 c =
+    let a = c .before .before .before .before .before .before .before .before .before .args in
+    c .before .before .put-byte .ensures ∙ ap (λ (s : Store). stored s (a .file .now) (a .memory .now)) (sym (c .before .before .before .before .before .store .given .1))
 
 returns-3 : tie.Need-returns-3
-returns-3 c = c .before .before .put-block .ensures ∙ ap (λ (s : Store). stored s (c .before .before .before .before .before .before .before .before .args .memory .now)) (sym (c .before .before .before .before .before .store2 .given .1))
+unfolding stored
+returns-3 c =
+    let a = c .before .before .before .before .before .before .before .before .before .args in
+    c .before .before .put-block .ensures ∙ ap (λ (s : Store). stored s (a .file .now) (a .memory .now)) (sym (c .before .before .before .before .before .store2 .given .1))
 
 returns-4 : tie.Need-returns-4
-returns-4 c = c .before .before .erase-sector .ensures ∙ ap (λ (s : Store). stored s (c .before .before .before .before .before .before .before .before .args .memory .now)) (sym (c .before .before .before .before .before .store3 .given .1))
+unfolding stored
+returns-4 c =
+    let a = c .before .before .before .before .before .before .before .before .before .args in
+    c .before .before .erase-sector .ensures ∙ ap (λ (s : Store). stored s (a .file .now) (a .memory .now)) (sym (c .before .before .before .before .before .store3 .given .1))
 
 returns-5 : tie.Need-returns-5
 unfolding stored
 returns-5 c = rw (c .before .before .before .before .enum-told2 .given .1) (c .before .before .erase .ensures)
+
+returns-6 : tie.Need-returns-6
+unfolding stored
+returns-6 c = rw (c .before .before .before .before .enum-told3 .given .1) (c .before .before .load .ensures)
 
 pub apply-spec : {M : Type 1} → statement M
 apply-spec =
@@ -54,6 +75,8 @@ apply-spec =
     erase-sector-requires
     (λ c. search needs)
     (λ c κs. search needs)
+    (λ c. search needs)
+    load-requires
     returns
     (λ c. search needs)
     returns-2
@@ -62,4 +85,6 @@ apply-spec =
     (λ c. search needs)
     returns-4
     (λ c. search needs)
-    returns-5)
+    returns-5
+    (λ c. search needs)
+    returns-6)

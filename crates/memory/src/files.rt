@@ -1,12 +1,11 @@
 // A file's bytes into a memory, and a memory's into a file.
-
+use crate::leaves::erase;
 use lists::copy;
-use memory::erase;
 ghost use mathlib.Core.Path.{_≡_};
 ghost use Prim.Native.Nat.{_≤_};
 ghost use lib.ListN.{length};
 ghost use Rattle.lists.specs.Lists.{into};
 ghost use Rattle.memory.specs.Memory.{filled};
 
 // Room for the longest file.
 fn room() -> [u8; 131072]
@@ -15,7 +14,7 @@ fn room() -> [u8; 131072]
     [0; 131072]
 }
 
-// `copy`, by way of an array that lies apart from both: the compiler leaves it out, and one move of the whole is left.
+// `copy`, through an array that is distinct from both: the compiler removes the array, and one move of the whole is left.
 pub fn copy_file(s: &mut [u8], output: &[u8])
     requires { ⌜ (length (now output) ≤ length (now s)) × (length (now output) ≤ 131072) ⌝ }
     ensures { λ _. ⌜ now (s .exit) ≡ into (now (output .entry)) (now (s .entry)) ⌝ }
@@ -26,7 +25,7 @@ pub fn copy_file(s: &mut [u8], output: &[u8])
     copy(s, &held[..n]);
 }
 
-// What FFh everywhere and then the file's first bytes leave; each byte is written once.
+// FFh everywhere, then the file's first bytes; each byte is written once.
 pub fn load(memory: &mut [u8], file: &[u8])
     requires { ⌜ length (now memory) ≤ 131072 ⌝ }
     ensures { λ _. ⌜ now (memory .exit) ≡ filled (length (now (memory .entry))) (now (file .entry)) ⌝ }

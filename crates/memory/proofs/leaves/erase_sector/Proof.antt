@@ -1,4 +1,4 @@
--- `memory::erase_sector` meets its contract. Assumes nothing.
+-- `memory::leaves::erase_sector` meets its contract. Assumes nothing.
 use Rattle.memory.proofs.Memory.{length-mid}
 use Prim.Native.Nat.{_+_, _*_, _/_}
 use native.Mathlib.Omega.{arith}
@@ -6,8 +6,8 @@ use Rattle.lists.proofs.Parts.{mid-part}
 use Rattle.memory.specs.Memory.{erased, stored}
 use Rattle.memory.proofs.Memory.{length-erased}
 use borrow.Author.Needs.{needs}
-use Rattle.memory.proofs.erase_sector.Statement.{statement}
-use Rattle.memory.proofs.erase_sector.Tie as tie
+use Rattle.memory.proofs.leaves.erase_sector.Statement.{statement}
+use Rattle.memory.proofs.leaves.erase_sector.Tie as tie
 
 returns : tie.Need-returns
 unfolding stored

@@ -1,7 +1,7 @@
 use Rattle.memory.specs.Memory.{erased}
 use borrow.Author.Needs.{needs}
-use Rattle.memory.proofs.erase.Statement.{statement}
-use Rattle.memory.proofs.erase.Tie as tie
+use Rattle.memory.proofs.leaves.erase.Statement.{statement}
+use Rattle.memory.proofs.leaves.erase.Tie as tie
 
 returns : tie.Need-returns
 unfolding erased

@@ -1,4 +1,4 @@
--- `memory::put_block` meets its contract. Assumes nothing.
+-- `memory::leaves::put_block` meets its contract. Assumes nothing.
 use Prim.Native.Nat.{_+_, _*_}
 use native.Mathlib.Omega.{arith}
 use Rattle.lists.specs.Lists.{digits}
@@ -6,8 +6,8 @@ use Rattle.lists.proofs.Parts.{mid-part}
 use Rattle.memory.specs.Memory.{stored}
 use Rattle.memory.proofs.Memory.{length-word}
 use borrow.Author.Needs.{needs}
-use Rattle.memory.proofs.put_block.Statement.{statement}
-use Rattle.memory.proofs.put_block.Tie as tie
+use Rattle.memory.proofs.leaves.put_block.Statement.{statement}
+use Rattle.memory.proofs.leaves.put_block.Tie as tie
 
 returns : tie.Need-returns
 unfolding stored

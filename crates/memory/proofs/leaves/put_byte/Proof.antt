@@ -1,8 +1,8 @@
 use mathlib.Core.Path.{refl}
 use Rattle.memory.specs.Memory.{stored}
 use borrow.Author.Needs.{needs}
-use Rattle.memory.proofs.put_byte.Statement.{statement}
-use Rattle.memory.proofs.put_byte.Tie as tie
+use Rattle.memory.proofs.leaves.put_byte.Statement.{statement}
+use Rattle.memory.proofs.leaves.put_byte.Tie as tie
 
 returns : tie.Need-returns
 unfolding stored

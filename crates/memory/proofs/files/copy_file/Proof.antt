@@ -1,14 +1,14 @@
--- `file_bytes::copy_file` meets its contract. Assumes nothing.
+-- `memory::files::copy_file` meets its contract. Assumes nothing.
 use mathlib.Core.List.{List}
 use mathlib.Core.Path.{sym, ap, _∙_}
 use Prim.Native.Nat.{ℕ}
 use native.Mathlib.Omega.{arith}
 use lib.ListN.{length}
 use Rattle.lists.specs.Lists.{into}
-use Rattle.file_bytes.proofs.Loads.{into-front}
+use Rattle.memory.proofs.Loads.{into-front}
 use borrow.Author.Needs.{needs}
-use Rattle.file_bytes.proofs.copy_file.Statement.{statement}
-use Rattle.file_bytes.proofs.copy_file.Tie as tie
+use Rattle.memory.proofs.files.copy_file.Statement.{statement}
+use Rattle.memory.proofs.files.copy_file.Tie as tie
 
 slice-aggregate-copy-2 : tie.Need-slice-aggregate-copy-2
 slice-aggregate-copy-2 c = let a = c .before .before .before .before .before .before .before .before .args in sym (ap length (into-front (a .output .now) _ (c .before .before .before .copy .ensures)))

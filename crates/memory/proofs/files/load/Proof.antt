@@ -1,12 +1,12 @@
--- `file_bytes::load` meets its contract. Assumes nothing.
+-- `memory::files::load` meets its contract. Assumes nothing.
 use mathlib.Core.Path.{refl, sym, _∙_}
 use native.Mathlib.Omega.{arith}
 use lib.ListN.{length}
 use lib.Seq.{length-take-le}
-use Rattle.file_bytes.proofs.Loads.{filled-long, filled-short}
+use Rattle.memory.proofs.Loads.{filled-long, filled-short}
 use borrow.Author.Needs.{needs}
-use Rattle.file_bytes.proofs.load.Statement.{statement}
-use Rattle.file_bytes.proofs.load.Tie as tie
+use Rattle.memory.proofs.files.load.Statement.{statement}
+use Rattle.memory.proofs.files.load.Tie as tie
 
 slice-aggregate-copy-file : tie.Need-slice-aggregate-copy-file
 slice-aggregate-copy-file c = sym (length-take-le _ _ (c .before .before .if1 .taken))

@@ -1,4 +1,4 @@
--- `memory::put_word` meets its contract: eight stores to eight bytes leave what was stored. Assumes nothing.
+-- `memory::leaves::put_word` meets its contract: eight stores to eight bytes leave what was stored. Assumes nothing.
 use mathlib.Core.Path.{sym, _∙_}
 use mathlib.Core.List.{[], _∷_}
 use Prim.Native.Nat.{_/_, _%_, _^_}
@@ -7,8 +7,8 @@ use native.Mathlib.Omega.{arith}
 use lib.ListN.{length-set}
 use Rattle.lists.proofs.Parts.{set-all}
 use borrow.Author.Needs.{needs}
-use Rattle.memory.proofs.put_word.Statement.{statement}
-use Rattle.memory.proofs.put_word.Tie as tie
+use Rattle.memory.proofs.leaves.put_word.Statement.{statement}
+use Rattle.memory.proofs.leaves.put_word.Tie as tie
 
 slice-write-block-5 : tie.Need-slice-write-block-5
 slice-write-block-5 c = simp length-set (omega arith)
