@@ -1,8 +1,6 @@
 // What a record tells in one number: its changed flag, whether its kind has an EEPROM, and where the EEPROM's window starts. None is lent memory:
 // whichever one stands beside the record stays. In front of each stands the quick test of a usual record; a function `_any` is of every record, and
 // called last, so that the quick way pays nothing for it.
-use out_params::kind_of;
-use out_params::tell;
 use c_record::cart_of;
 use c_record::is_record;
 use c_record::write_back;
@@ -10,6 +8,8 @@ use cart::bit;
 use kind::uses_eeprom as is_eeprom;
 use kind::window_start;
 use lists::low32;
+use out_params::kind_of;
+use out_params::tell;
 use quick_tests::asked_usual;
 use quick_tests::known;
 ghost use mathlib.Core.Path.{_≡_};

@@ -1,5 +1,4 @@
 // `load_save`, `save_data` and import on the 24 bytes of a record as they are lent.
-use out_params::kind_of;
 use c_record::is_record;
 use file_bytes::copy_file;
 use file_calls::file_length;
@@ -7,6 +6,7 @@ use file_sizes::kept_part;
 use file_sizes::takes;
 use kind::memory_size;
 use kind::uses_eeprom;
+use out_params::kind_of;
 use quick_tests::fresh_usual;
 use quick_tests::known;
 use quick_tests::serial_usual;

@@ -2,9 +2,9 @@
 
 mod sizes;
 
-use out_params::tell;
 use image::image_length;
 use kind::kind_number;
+use out_params::tell;
 pub use sizes::memory_size;
 pub use sizes::save_fit;
 pub use sizes::save_size;

@@ -1,6 +1,5 @@
 // What a C program lends: the cartridge record as 24 bytes.
 
-use out_params::kind_of;
 use cart::Cartridge;
 use cart::Reply;
 use cart::bit;
@@ -10,6 +9,7 @@ use cart::state_questions;
 use image::image_length;
 use kind::kind_number;
 use lists::low32;
+use out_params::kind_of;
 ghost use mathlib.Core.Path.{_≡_};
 ghost use mathlib.Core.Bool.{true};
 ghost use lib.ListN.{length};

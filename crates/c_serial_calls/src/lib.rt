@@ -1,15 +1,15 @@
 // `eeprom_write` and `eeprom_read` on the 24 bytes of a record. In front of each stands the quick test of a usual record; a
 // function `_any` is of every record, and called last, so that the quick way pays nothing for it.
-use out_params::kind_of;
-use out_params::tell;
-use c_record::cart_of;
-use c_record::is_record;
-use c_record::write_back;
 use bits_in_place::draw_in_place;
 use bits_in_place::shift_in_place;
 use bits_in_place::step_in_place;
+use c_record::cart_of;
+use c_record::is_record;
+use c_record::write_back;
 use kind::memory_size;
 use kind::uses_eeprom;
+use out_params::kind_of;
+use out_params::tell;
 use quick_tests::known;
 use quick_tests::serial_usual;
 use quick_tests::shift_usual;

@@ -1,10 +1,10 @@
 // Opening, `chip_state`, restore, `take_save_dirty`, and what is asked of a record alone.
-use c_state_calls::chip_state;
-use c_state_calls::from_bytes;
-use c_state_calls::restore_chip_state;
 use abi_values::eeprom_window_start;
 use abi_values::take_save_dirty;
 use abi_values::uses_eeprom;
+use c_state_calls::chip_state;
+use c_state_calls::from_bytes;
+use c_state_calls::restore_chip_state;
 ghost use mathlib.Core.Path.{_≡_};
 ghost use mathlib.Core.List.{List};
 ghost use Prim.Native.Nat.{ℕ};

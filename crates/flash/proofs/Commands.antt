@@ -13,7 +13,7 @@ use Rattle.lists.specs.Lists.{withPart}
 use Rattle.memory.specs.Memory.{Held, erased, stored}
 use Rattle.memory.proofs.Memory.{length-erased}
 use Rattle.flash.specs.declared.Flash.{Flash}
-use Rattle.flash.specs.Flash.{place, flashRead, unlock, command, erase, flashWrite, writeByte}
+use Rattle.flash.specs.Flash.{place, idByte, shownByte, flashRead, unlock, command, erase, flashWrite, writeByte}
 use Rattle.flash.specs.Gbatek.{write, enterId, leaveId, eraseChip, eraseSector, program, selectBank, written, ChipBytes, bytes64K, bytes128K, Idle, base, idleChip, Commands}
 
 -- where the bytes lie that the bank shows
@@ -101,12 +101,12 @@ module _ (x : Held Flash) (i : Idle x) where
       ap (written (selectBank n)) idle ∙ ap (λ (k : ℕ). idleChip k on m (x .dirty)) e
 
   shows-byte : (word a : ℕ) → a < 65536 → on ≡ false → flashRead word (x .chip) m (0x0e000000 + a) ≡ getD m (base x + a) 0
-  unfolding flashRead place
+  unfolding shownByte place
   shows-byte word a h e = rw (e, shown a h)
 
   shows-id : (maker device : ℕ) → maker < 256 → on ≡ true
       → (flashRead (maker + 256 * device) (x .chip) m 0x0e000000 ≡ maker) × (flashRead (maker + 256 * device) (x .chip) m 0x0e000001 ≡ device)
-  unfolding flashRead place
+  unfolding idByte
   shows-id maker device h e = (rw e (omega arith), rw e (omega arith))
 
 pub commands : (x : Held Flash) → Idle x → Commands x

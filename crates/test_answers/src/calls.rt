@@ -15,6 +15,8 @@ use crate::rooms::line_room;
 use cart::Cartridge;
 use cart::Reply;
 use cart::fresh_cart;
+use carttrace_lib::Played;
+use carttrace_lib::play;
 use crc::crc32;
 use file_calls::load_save;
 use file_calls::save_data;
@@ -29,8 +31,6 @@ use kind::SaveType;
 use kind::memory_size;
 use memory::erase;
 use state_calls::restore_chip_state;
-use carttrace_lib::Played;
-use carttrace_lib::play;
 ghost use Prim.Native.Nat.{_≤_};
 ghost use lib.ListN.{length};
 

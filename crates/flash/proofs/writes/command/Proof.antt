@@ -1,10 +1,10 @@
--- `flash::command` meets its contract, value by value. Assumes nothing.
+-- `flash::writes::command` meets its contract, value by value. Assumes nothing.
 use mathlib.Core.Path.{_∙_}
 use borrow.Author.Tests.{ne-eqb}
 use Rattle.flash.specs.Flash.{command}
 use borrow.Author.Needs.{needs}
-use Rattle.flash.proofs.command.Statement.{statement}
-use Rattle.flash.proofs.command.Tie as tie
+use Rattle.flash.proofs.writes.command.Statement.{statement}
+use Rattle.flash.proofs.writes.command.Tie as tie
 
 returns : tie.Need-returns
 unfolding command

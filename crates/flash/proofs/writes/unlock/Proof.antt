@@ -1,8 +1,8 @@
 use Rattle.lists.proofs.Bools.{tests}
 use Rattle.flash.specs.Flash.{unlock}
 use borrow.Author.Needs.{needs}
-use Rattle.flash.proofs.unlock.Statement.{statement}
-use Rattle.flash.proofs.unlock.Tie as tie
+use Rattle.flash.proofs.writes.unlock.Statement.{statement}
+use Rattle.flash.proofs.writes.unlock.Tie as tie
 
 returns : tie.Need-returns
 unfolding unlock

@@ -1,10 +1,10 @@
--- `flash::erase` meets its contract, value by value. Assumes nothing.
+-- `flash::writes::erase` meets its contract, value by value. Assumes nothing.
 use mathlib.Core.Path.{_∙_}
 use borrow.Author.Tests.{ne-eqb}
 use Rattle.flash.specs.Flash.{erase}
 use borrow.Author.Needs.{needs}
-use Rattle.flash.proofs.erase.Statement.{statement}
-use Rattle.flash.proofs.erase.Tie as tie
+use Rattle.flash.proofs.writes.erase.Statement.{statement}
+use Rattle.flash.proofs.writes.erase.Tie as tie
 
 returns : tie.Need-returns
 unfolding erase
