@@ -13,7 +13,8 @@ use borrow.Author.Tests.{eq-eqb, ne-eqb, le-leb, lt-leb}
 use Rattle.lists.specs.Lists.{into}
 use Rattle.kind.specs.declared.SaveType.{SaveType}
 use Rattle.kind.specs.Kind.{memorySize}
-use Rattle.out_params.specs.Places.{kindOf, placed}
+use Rattle.kind.specs.Kind.{kindOf}
+use Rattle.out_params.specs.Places.{placed}
 use Rattle.cart.specs.declared.Reply.{Reply}
 use Rattle.cart.specs.Record.{State, Outcome, recordAllowed}
 use Rattle.cart.specs.Calls.{saveData, fileOf, holds, exported, questions, accepted}

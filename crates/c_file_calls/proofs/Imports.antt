@@ -8,7 +8,7 @@ use lib.ListN.{length, getD}
 use borrow.Author.Tests.{eq-eqb, ne-eqb}
 use Rattle.kind.specs.Kind.{memorySize}
 use Rattle.file_sizes.specs.SaveFit.{saveFit, taken, keptPart}
-use Rattle.out_params.specs.Places.{kindOf}
+use Rattle.kind.specs.Kind.{kindOf}
 use Rattle.cart.specs.Record.{recordAllowed}
 use Rattle.cart.specs.Calls.{load, importSave}
 use Rattle.c_record.specs.RecordBytes.{recordBytes, cartOf, isRecord, stateOf, bytesOf}

@@ -10,7 +10,7 @@ use lib.ListN.{length, getD, set}
 use borrow.Author.Tests.{eq-eqb, ne-eqb, le-ltb}
 use Rattle.memory.specs.Memory.{filled}
 use Rattle.kind.specs.Kind.{memorySize, usesEeprom}
-use Rattle.out_params.specs.Places.{kindOf}
+use Rattle.kind.specs.Kind.{kindOf}
 use Rattle.cart.specs.ChipState.{bit}
 use Rattle.cart.specs.Record.{recordAllowed}
 use Rattle.cart.specs.Calls.{load, loadSave, questions, accepted, step}

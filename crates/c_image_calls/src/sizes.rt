@@ -3,7 +3,7 @@ ghost use Rattle.out_params.specs.Places.{answeredAt, fitAnswer, keptLength, me
 use file_sizes::SaveFit;
 use file_sizes::save_fit_of;
 use file_sizes::save_size_of;
-use out_params::kind_of;
+use kind::kind_of;
 ghost use mathlib.Core.Path.{_≡_};
 
 fn kept_length(fit: SaveFit) -> usize

@@ -10,7 +10,7 @@ use lib.ListN.{length, getD, take, drop, replicate, length-drop, length-take, ta
 use lib.Pow.{areBytes}
 use lib.Seq.{drop-cons, take-all}
 use borrow.Author.Tests.{leb-true, eqb-true, eqb-false, lt-ltb, lt-leb, le-leb}
-use Rattle.out_params.specs.Places.{kindOf}
+use Rattle.kind.specs.Kind.{kindOf}
 use Rattle.lists.specs.Lists.{lowFirst, lowValue}
 use Rattle.lists.specs.Questions.{asked}
 use Rattle.lists.proofs.Bools.{split, and-left, and-right}
@@ -20,7 +20,7 @@ use Rattle.image.specs.Image.{imageLength}
 use Rattle.kind.specs.declared.SaveType.{SaveType}
 use Rattle.kind.specs.declared.SaveType.the-variants.{None}
 use Rattle.kind.specs.Kind.{kindNumber}
-use Rattle.out_params.proofs.Numbers.{kind-le, kind-back, kind-forth}
+use Rattle.kind.proofs.Numbers.{kind-le, kind-back, kind-forth}
 use Rattle.cart.specs.declared.ChipRecord.{ChipRecord}
 use Rattle.cart.specs.declared.Cartridge.{Cartridge}
 use Rattle.cart.specs.ChipState.{bit, chipBytes, chipOf, stateQuestions}

@@ -8,7 +8,7 @@ use Rattle.lists.specs.Lists.{lowFirst, lowValue}
 use Rattle.lists.specs.Questions.{asked}
 use Rattle.image.specs.Image.{imageLength}
 use Rattle.kind.specs.Kind.{kindNumber}
-use Rattle.out_params.specs.Places.{kindOf}
+use Rattle.kind.specs.Kind.{kindOf}
 use Rattle.cart.specs.declared.Cartridge.{Cartridge}
 use Rattle.cart.specs.ChipState.{bit, chipBytes, chipOf, stateQuestions}
 use Rattle.cart.specs.Record.{State}

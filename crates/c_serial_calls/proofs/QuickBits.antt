@@ -9,7 +9,7 @@ use lib.Dec.{eqb}
 use lib.ListN.{length, getD}
 use lib.Seq.{getD-drop}
 use borrow.Author.Tests.{eq-eqb, ne-eqb, eqb-false}
-use Rattle.out_params.specs.Places.{kindOf}
+use Rattle.kind.specs.Kind.{kindOf}
 use Rattle.lists.proofs.Bools.{split}
 use Rattle.kind.specs.Kind.{memorySize, usesEeprom}
 use Rattle.eeprom.specs.declared.EepromPhase.{EepromPhase}

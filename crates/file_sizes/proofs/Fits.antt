@@ -16,23 +16,6 @@ use Rattle.file_sizes.specs.declared.SaveFit.the-variants.{Keeps, Refuse
 use Rattle.kind.specs.Kind.{byKind, kindNumber}
 use Rattle.file_sizes.specs.SaveFit.{chipSize, eepromFit, saveFit, saveSize, keptBy, keptPart}
 
--- a table read by kind number
-pub number-lt : (kind : SaveType) → kindNumber kind < 6
-number-lt None = omega arith
-number-lt Sram = omega arith
-number-lt Flash64 = omega arith
-number-lt Flash128 = omega arith
-number-lt Eeprom512 = omega arith
-number-lt Eeprom8k = omega arith
-
-pub by-number : (kind : SaveType) (a b c d e f : ℕ) → getD (a ∷ b ∷ c ∷ d ∷ e ∷ f ∷ []) (kindNumber kind) 0 ≡ byKind kind a b c d e f
-by-number None a b c d e f = refl
-by-number Sram a b c d e f = refl
-by-number Flash64 a b c d e f = refl
-by-number Flash128 a b c d e f = refl
-by-number Eeprom512 a b c d e f = refl
-by-number Eeprom8k a b c d e f = refl
-
 -- a file of less, of all and of more than a chip's bytes
 pub under-size : (n file : ℕ) → file < n → false ≡ chipSize n file
 unfolding chipSize

@@ -16,7 +16,7 @@ ghost use Rattle.memory.specs.declared.Store.the-variants.{Byte};
 ghost use Rattle.memory.specs.Memory.{stored};
 ghost use Rattle.flash.specs.Flash.{place as place·spec, flashRead, writeByte};
 ghost use Rattle.kind.specs.Kind.{memorySize};
-ghost use Rattle.out_params.specs.Places.{kindOf};
+ghost use Rattle.kind.specs.Kind.{kindOf};
 ghost use Rattle.cart.specs.Calls.{withFlash, flashOf};
 ghost use Rattle.c_record.specs.RecordBytes.{cartOf, isRecord, stateOf, bytesOf};
 ghost use Rattle.in_place.specs.InPlace.{heldAt, writeAt, commandLeft, eraseLeft};

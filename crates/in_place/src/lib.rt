@@ -12,7 +12,7 @@ ghost use Prim.Native.Nat.{ℕ, _%_, _<_};
 ghost use lib.ListN.{length, getD, set};
 ghost use Rattle.memory.specs.declared.Store.the-variants.{Byte};
 ghost use Rattle.memory.specs.Memory.{stored};
-ghost use Rattle.out_params.specs.Places.{kindOf};
+ghost use Rattle.kind.specs.Kind.{kindOf};
 ghost use Rattle.c_record.specs.RecordBytes.{isRecord, stateOf};
 ghost use Rattle.in_place.specs.InPlace.{heldAt, readAt, writeAt};
 

@@ -1,3 +1,5 @@
 pub mod Sizes
+pub mod Numbers
+pub mod Groups
 pub mod Standing
 pub mod Examples

@@ -22,6 +22,13 @@ byKind Eeprom8k a b c d e f = f
 abbrev pub kindNumber : SaveType → ℕ
 kindNumber kind = byKind kind 0 1 2 3 4 5
 
+-- and the kind of a number; no number above 5 is a kind's
+unfoldable pub kindOf : ℕ → SaveType
+kindOf n =
+    cond (eqb n 0) None
+    (cond (eqb n 1) Sram
+    (cond (eqb n 2) Flash64 (cond (eqb n 3) Flash128 (cond (eqb n 4) Eeprom512 Eeprom8k))))
+
 -- "Kinds and save memory bytes"
 abbrev pub memorySize : SaveType → ℕ
 memorySize kind = byKind kind 0 32768 65536 131072 8192 8192

@@ -4,7 +4,7 @@ mod markers;
 
 pub use markers::detect_save_type;
 ghost use mathlib.Core.Path.{_≡_};
-ghost use Rattle.kind.specs.Kind.{kindNumber, memorySize, usesEeprom, windowStart};
+ghost use Rattle.kind.specs.Kind.{kindNumber, kindOf, memorySize, usesEeprom, windowStart};
 
 pub enum SaveType {
     None,
@@ -25,6 +25,20 @@ pub fn kind_number(kind: SaveType) -> usize
         SaveType::Flash128 => 3,
         SaveType::Eeprom512 => 4,
         SaveType::Eeprom8k => 5,
+    }
+}
+
+// A kind by its number; no number above 5 is one.
+pub fn kind_of(n: u8) -> SaveType
+    ensures { λ r. ⌜ r ≡ kindOf n ⌝ }
+{
+    match n {
+        0 => SaveType::None,
+        1 => SaveType::Sram,
+        2 => SaveType::Flash64,
+        3 => SaveType::Flash128,
+        4 => SaveType::Eeprom512,
+        _ => SaveType::Eeprom8k,
     }
 }
 

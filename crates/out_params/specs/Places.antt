@@ -6,19 +6,10 @@ use lib.Dec.{leb, eqb}
 use Rattle.lists.specs.Questions.{_else_}
 use Rattle.image.specs.declared.Answer.{Answer}
 use Rattle.image.specs.Image.{imageQuestion, accepted, answered}
-use Rattle.kind.specs.declared.SaveType.{SaveType}
-use Rattle.kind.specs.declared.SaveType.the-variants.{None, Sram, Flash64, Flash128, Eeprom512, Eeprom8k}
-use Rattle.kind.specs.Kind.{kindNumber, memorySize, detectSaveType}
+use Rattle.kind.specs.Kind.{kindNumber, kindOf, memorySize, detectSaveType}
 use Rattle.file_sizes.specs.declared.SaveFit.{SaveFit}
 use Rattle.file_sizes.specs.declared.SaveFit.the-variants.{Keeps, Refused}
 use Rattle.file_sizes.specs.SaveFit.{saveFitOf, saveSizeOf}
-
--- no number above 5 is a kind's
-unfoldable pub kindOf : ℕ → SaveType
-kindOf n =
-    cond (eqb n 0) None
-    (cond (eqb n 1) Sram
-    (cond (eqb n 2) Flash64 (cond (eqb n 3) Flash128 (cond (eqb n 4) Eeprom512 Eeprom8k))))
 
 -- an accepted call puts its value there; a refused one leaves what is there
 abbrev pub placed : {A : Type 0} → ℕ → A → A → A

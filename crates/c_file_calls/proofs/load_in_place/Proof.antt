@@ -3,7 +3,7 @@ use mathlib.Core.Path.{refl}
 use native.Mathlib.Omega.{arith}
 use lib.ListN.{getD}
 use Rattle.kind.proofs.Sizes.{memory-small}
-use Rattle.out_params.specs.Places.{kindOf}
+use Rattle.kind.specs.Kind.{kindOf}
 use Rattle.c_file_calls.proofs.Large.{large-le}
 use Rattle.c_file_calls.proofs.Loads.{loaded-bytes}
 use borrow.Author.Needs.{needs}

@@ -4,7 +4,7 @@ use native.Mathlib.Omega.{arith}
 use lib.ListN.{getD}
 use Rattle.lists.proofs.Bools.{granted}
 use Rattle.kind.proofs.Sizes.{memory-small}
-use Rattle.out_params.specs.Places.{kindOf}
+use Rattle.kind.specs.Kind.{kindOf}
 use Rattle.c_file_calls.proofs.Loads.{short-done}
 use borrow.Author.Needs.{needs}
 use Rattle.c_file_calls.proofs.load_save.Statement.{statement}

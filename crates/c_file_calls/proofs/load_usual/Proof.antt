@@ -3,7 +3,7 @@ use mathlib.Core.Path.{sym, ap, _∙_}
 use lib.ListN.{getD}
 use Rattle.lists.proofs.Bools.{granted}
 use Rattle.kind.specs.Kind.{usesEeprom}
-use Rattle.out_params.specs.Places.{kindOf}
+use Rattle.kind.specs.Kind.{kindOf}
 use Rattle.cart.proofs.Sound.{eeprom-size}
 use Rattle.quick_tests.proofs.QuickTests.{never}
 use borrow.Author.Needs.{needs}

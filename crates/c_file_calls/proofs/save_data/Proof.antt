@@ -6,7 +6,7 @@ use lib.ListN.{length, getD}
 use Rattle.lists.proofs.Bools.{denied, granted}
 use Rattle.kind.specs.declared.SaveType.{SaveType}
 use Rattle.kind.specs.Kind.{memorySize}
-use Rattle.out_params.specs.Places.{kindOf}
+use Rattle.kind.specs.Kind.{kindOf}
 use Rattle.file_calls.specs.Files.{fileLength}
 use Rattle.file_calls.proofs.Exports.{length-small}
 use Rattle.c_file_calls.proofs.Exports.{file-size, no-record, no-memory, no-room, export-done}

@@ -3,7 +3,7 @@ use mathlib.Core.Path.{ap, _∙_}
 use native.Mathlib.Omega.{arith}
 use Rattle.lists.proofs.Bools.{denied, granted}
 use Rattle.kind.specs.Kind.{kindNumber}
-use Rattle.out_params.proofs.Numbers.{kind-lt}
+use Rattle.kind.proofs.Numbers.{kind-lt}
 use Rattle.c_image_calls.proofs.Answers.{kind-no, kind-yes}
 use borrow.Author.Needs.{needs}
 use Rattle.c_image_calls.proofs.detect_save_type.Statement.{statement}

@@ -1,6 +1,6 @@
 -- `c_record::record_bytes` meets its contract. Assumes nothing.
 use native.Mathlib.Omega.{arith}
-use Rattle.out_params.proofs.Numbers.{kind-lt}
+use Rattle.kind.proofs.Numbers.{kind-lt}
 use Rattle.c_record.proofs.RecordBytes.{record-spelled}
 use borrow.Author.Needs.{needs}
 use Rattle.c_record.proofs.record_bytes.Statement.{statement}

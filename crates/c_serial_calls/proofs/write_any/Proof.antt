@@ -2,7 +2,7 @@
 use mathlib.Core.Path.{sym, ap, _∙_}
 use mathlib.Core.List.{[]}
 use lib.ListN.{getD}
-use Rattle.out_params.specs.Places.{kindOf}
+use Rattle.kind.specs.Kind.{kindOf}
 use Rattle.lists.proofs.Bools.{denied, granted}
 use Rattle.kind.specs.Kind.{memorySize, usesEeprom}
 use Rattle.cart.specs.Calls.{eepromWrite, step}

@@ -1,6 +1,6 @@
 use native.Mathlib.Omega.{arith}
 use Rattle.file_sizes.specs.SaveFit.{saveSize}
-use Rattle.file_sizes.proofs.Fits.{number-lt, by-number}
+use Rattle.kind.proofs.Numbers.{number-lt, by-number}
 use borrow.Author.Needs.{needs}
 use Rattle.file_sizes.proofs.save_size.Statement.{statement}
 use Rattle.file_sizes.proofs.save_size.Tie as tie

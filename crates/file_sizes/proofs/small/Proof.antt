@@ -1,5 +1,5 @@
 use native.Mathlib.Omega.{arith}
-use Rattle.file_sizes.proofs.Fits.{number-lt, by-number}
+use Rattle.kind.proofs.Numbers.{number-lt, by-number}
 use borrow.Author.Needs.{needs}
 use Rattle.file_sizes.proofs.small.Statement.{statement}
 use Rattle.file_sizes.proofs.small.Tie as tie

@@ -5,7 +5,7 @@ use Prim.Native.Nat.{ℕ, _%_, _<_}
 use lib.ListN.{getD}
 use Rattle.kind.specs.declared.SaveType.{SaveType}
 use Rattle.kind.specs.Kind.{memorySize}
-use Rattle.out_params.specs.Places.{kindOf}
+use Rattle.kind.specs.Kind.{kindOf}
 use Rattle.cart.specs.Calls.{writeSave}
 use Rattle.c_record.specs.RecordBytes.{stateOf, bytesOf}
 use Rattle.in_place.proofs.ByKind.{kind-flash, held-yes, held-no}

@@ -1,15 +1,16 @@
--- A kind and its number give each other back. Assumes nothing.
+-- A kind and its number give each other back; tables by kind number. Assumes nothing.
 use mathlib.Core.Path.{_≡_, refl, sym}
 use mathlib.Core.Bool.{true}
+use mathlib.Core.List.{[], _∷_}
 use Prim.Native.Nat.{ℕ, _<_}
 use native.Mathlib.Omega.{arith}
 use lib.Dec.{leb, eqb}
+use lib.ListN.{getD}
 use borrow.Author.Tests.{leb-true, eqb-true, eqb-false}
 use Rattle.lists.proofs.Bools.{split}
 use Rattle.kind.specs.declared.SaveType.{SaveType}
 use Rattle.kind.specs.declared.SaveType.the-variants.{None, Sram, Flash64, Flash128, Eeprom512, Eeprom8k}
-use Rattle.kind.specs.Kind.{byKind, kindNumber}
-use Rattle.out_params.specs.Places.{kindOf}
+use Rattle.kind.specs.Kind.{byKind, kindNumber, kindOf}
 
 pub kind-le : (k : SaveType) → leb (kindNumber k) 5 ≡ true
 kind-le None = refl
@@ -42,3 +43,20 @@ kind-forth n h =
 -- a kind's number is a byte
 pub kind-lt : (k : SaveType) {n : ℕ} → n ≡ kindNumber k → n < 256
 kind-lt k e = rw e (omega (arith, leb-true (kindNumber k) 5 (kind-le k)))
+
+-- a table read by kind number
+pub number-lt : (kind : SaveType) → kindNumber kind < 6
+number-lt None = omega arith
+number-lt Sram = omega arith
+number-lt Flash64 = omega arith
+number-lt Flash128 = omega arith
+number-lt Eeprom512 = omega arith
+number-lt Eeprom8k = omega arith
+
+pub by-number : (kind : SaveType) (a b c d e f : ℕ) → getD (a ∷ b ∷ c ∷ d ∷ e ∷ f ∷ []) (kindNumber kind) 0 ≡ byKind kind a b c d e f
+by-number None a b c d e f = refl
+by-number Sram a b c d e f = refl
+by-number Flash64 a b c d e f = refl
+by-number Flash128 a b c d e f = refl
+by-number Eeprom512 a b c d e f = refl
+by-number Eeprom8k a b c d e f = refl

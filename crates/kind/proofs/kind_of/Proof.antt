@@ -1,8 +1,8 @@
 -- `out_params::kind_of` meets its contract. Assumes nothing.
 use borrow.Author.Tests.{ne-eqb}
-use Rattle.out_params.specs.Places.{kindOf}
-use Rattle.out_params.proofs.kind_of.Statement.{statement}
-use Rattle.out_params.proofs.kind_of.Tie as tie
+use Rattle.kind.specs.Kind.{kindOf}
+use Rattle.kind.proofs.kind_of.Statement.{statement}
+use Rattle.kind.proofs.kind_of.Tie as tie
 
 returns : tie.Need-returns
 unfolding kindOf

@@ -1,0 +1,57 @@
+-- A byte read and a byte written, by the kind. Document 01, "The machine", Bytes (`save_read`, `save_write`).
+use mathlib.Core.Bool.{Bool, true, false}
+use mathlib.Core.List.{List, []}
+use Prim.Native.Nat.{ℕ, _%_}
+use lib.ListN.{length, getD}
+use Rattle.memory.specs.declared.Store.{Store}
+use Rattle.memory.specs.declared.Store.the-variants.{Nothing, Byte}
+use Rattle.memory.specs.Memory.{Held, stores, changed}
+use Rattle.kind.specs.declared.SaveType.{SaveType}
+use Rattle.kind.specs.declared.SaveType.the-variants.{None, Sram, Flash64, Flash128, Eeprom512, Eeprom8k}
+use Rattle.kind.specs.Kind.{byKind}
+use Rattle.flash.specs.declared.Flash.{Flash}
+use Rattle.flash.specs.declared.FlashStep.{FlashStep}
+use Rattle.flash.specs.Flash.{flashRead, flashWrite}
+use Rattle.byte_step.specs.declared.ByteStep.{ByteStep}
+
+-- "an even address reads 32h (Flash64) or 62h (Flash128), an odd one 1Bh or 13h": the ID words, the maker in the low byte
+abbrev pub panasonic64K : ℕ
+panasonic64K = 0x1b32
+
+abbrev pub sanyo128K : ℕ
+sanyo128K = 0x1362
+
+-- of a kind's flash part; the other kinds have none
+abbrev pub idWord : SaveType → ℕ
+idWord kind = byKind kind 0 0 panasonic64K sanyo128K 0 0
+
+-- "Sram: address mod 32,768 .. None: reads FFh .. EEPROM kinds: address mod 8,192"
+unfoldable pub readByte : SaveType → Flash → List ℕ → ℕ → ℕ
+readByte None f m a = 0xff
+readByte Sram f m a = getD m (a % 32768) 0
+readByte Flash64 f m a = flashRead (idWord Flash64) f m a
+readByte Flash128 f m a = flashRead (idWord Flash128) f m a
+readByte Eeprom512 f m a = getD m (a % 8192) 0
+readByte Eeprom8k f m a = getD m (a % 8192) 0
+
+-- what a write leads to: the flash chip, whether the changed flag is set, and what is stored
+abbrev pub stepTo : Flash → Bool → Store → ByteStep
+stepTo flash sets store = record { flash = flash; sets = sets; store = store }
+
+abbrev pub ofFlash : FlashStep → ByteStep
+ofFlash t = stepTo (t .flash) (stores (t .store)) (t .store)
+
+-- "a write sets the flag. None: .. writes nothing. EEPROM kinds: .. flag not set."; the memory has n bytes
+unfoldable pub writeByte : SaveType → Flash → ℕ → ℕ → ℕ → ByteStep
+writeByte None f n a v = stepTo f false Nothing
+writeByte Sram f n a v = stepTo f true (Byte (a % 32768) v)
+writeByte Flash64 f n a v = ofFlash (flashWrite f n a v)
+writeByte Flash128 f n a v = ofFlash (flashWrite f n a v)
+writeByte Eeprom512 f n a v = stepTo f false (Byte (a % 8192) v)
+writeByte Eeprom8k f n a v = stepTo f false (Byte (a % 8192) v)
+
+-- the chip with its memory and the flag after it
+abbrev pub written : SaveType → Held Flash → ℕ → ℕ → Held Flash
+written kind x a v =
+    let t = writeByte kind (x .chip) (length (x .memory)) a v in
+    changed (t .flash) (t .store) [] (t .sets) x
