@@ -1,9 +1,11 @@
 /*
- * gbasave_replay.h: lists of calls of gbasave.h, played from a fresh cartridge with states taken between them; for tests.
- * For C11 and C++; the archive libgbasave_replay.a is for x86-64 with the System V calling convention, and needs nothing
- * from outside but memcpy, memmove, memset and memcmp. It may be linked with libgbasave.a or without.
+ * gbasave_replay.h: replays a list of calls of gbasave.h on a fresh cartridge, with states taken and resumed between
+ * the calls. It is for tests. For C11 and C++. The archive libgbasave_replay.a is for x86-64 with the System V calling
+ * convention. It needs nothing from outside but memcpy, memmove and memset. It may be linked with libgbasave.a or
+ * without.
  *
- * THE LIST. Items stand one behind the other, each a byte and what goes with it; numbers have their high byte first.
+ * THE LIST is a sequence of items. An item is one byte and its arguments. Numbers have their high byte first; the
+ * table has their sizes in bytes.
  *
  *     item                          call                                answer
  *     01  address (4)               gbasave_save_read                   status, the byte
@@ -18,15 +20,16 @@
  *                                   destination of that many zeros
  *     0A                            a cut                               nothing
  *
- * A cut takes a state and resumes it: gbasave_save_data and gbasave_chip_state; gbasave_from_bytes of the same image,
- * gbasave_load_save of the file where there is one, gbasave_restore_chip_state. All that the call before it left is
- * lost, but for the file and the 18 bytes.
+ * A CUT takes a state and resumes it. Its steps are gbasave_save_data and gbasave_chip_state; then gbasave_from_bytes
+ * with the same image, gbasave_load_save with the file, if there is one, and gbasave_restore_chip_state. Only the file
+ * and the 18 bytes are kept; everything else that the call before the cut left is lost.
  *
- * THE OUTPUT. The answers of the items, one behind the other; a status is 0 or the number of a refusal, and behind a refusal
- * values are 0. Behind them, as if the list ended so, the answers of a 09 as long as the save memory and of a 07: the
- * file and the chip record at the end.
+ * THE OUTPUT is the answers of the items, one after the other. A status is 0 or the number of a refusal. After a
+ * refusal the values are 0. Two more answers follow, as if the list ended with these items: the answer of a 09 whose
+ * length is that of the save memory, and the answer of a 07. They are the file and the chip record at the end.
  *
- * IT IS PROVED that the output is that of the list without its cuts, wherever they stand and however many there are.
+ * IT IS PROVED that the output is the same as that of the list without its cuts, wherever the cuts are and however
+ * many there are.
  */
 #ifndef GBASAVE_REPLAY_H
 #define GBASAVE_REPLAY_H
@@ -38,22 +41,27 @@
 extern "C" {
 #endif
 
-/* Refusals of a replay beside those of gbasave.h. */
-#define GBASAVE_REPLAY_BYTE_WRITE 0xFE /* a byte write to an EEPROM cartridge */
-#define GBASAVE_REPLAY_NO_LIST 0xFF    /* an item that is none, or one that the list's end cuts off */
+/* Refusals of a replay, in addition to those of gbasave.h. */
+#define GBASAVE_REPLAY_BYTE_WRITE 0xFE /* the list has a byte write to an EEPROM cartridge */
+#define GBASAVE_REPLAY_NO_LIST 0xFF    /* the list has an unknown item, or it ends inside one */
 
-/* What the end of the output takes, for a save memory of n bytes. */
+/* The size in bytes of the end of the output (the two answers after the list's own), for a save memory of n bytes. */
 #define GBASAVE_REPLAY_END(n) (24 + (size_t)(n))
 
 /*
- * Opens the image, plays the list, and writes its answers to the front of `out`.
+ * Opens the image, plays the list, and writes its answers to the beginning of `out`. It returns 0 or the number of the
+ * first question to which the answer is no.
+ *   Asks:    1    Is the image 192 bytes to 32 MiB long?
+ *            3    Does the memory have the length of the image's kind?
+ *            FFh  Is the list valid?
+ *            FEh  Does the list contain no 02, or does the cartridge have no EEPROM?
+ *            13   Is the scratch at least as long as the memory?
+ *            13   Is `out` at least as long as all answers and the end?
+ *   Writes:  to `out`, the answers and the end. The bytes after them keep their values.
+ *   Changes: memory: as the calls leave it. scratch: every byte becomes 0.
+ * If it is refused it changes nothing. A status in the output refuses only its own item; the list goes on after it.
  *
- * Asks 1: has the image 192 bytes to 32 MiB? 3: has the memory the length of the image's kind? FFh: is the list one? FEh:
- * is there no 02 in it, or no EEPROM in the cartridge? 13: is the scratch as long as the memory? 13: is `out` as long as all
- * answers and the end? Refused, it changes nothing. Statuses in the output refuse single items; the list goes on.
- *
- * Leaves in `memory` what the run leaves, in `scratch` zeros, and behind the answers in `out` what was there. What the caller
- * owes is what gbasave.h says: no NULL, no two places that overlap.
+ * The caller has to ensure what gbasave.h says: no pointer is NULL, and no two objects overlap.
  */
 uint32_t gbasave_replay(const uint8_t *image, size_t image_length, const uint8_t *list, size_t list_length, uint8_t *memory,
                         size_t memory_length, uint8_t *scratch, size_t scratch_length, uint8_t *out, size_t out_length);

@@ -16,7 +16,7 @@ void accepted(const char *what, uint32_t answer)
 void expect(const char *what, bool so)
 {
     if (!so) {
-        fprintf(stderr, "host: %s: it is not so\n", what);
+        fprintf(stderr, "host: check failed: %s\n", what);
         exit(1);
     }
 }

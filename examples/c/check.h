@@ -1,4 +1,4 @@
-/* What the stories hold answers against. A wrong one is printed, and the program ends with status 1. */
+/* Checks of answers. A wrong answer is printed, and the program ends with status 1. */
 #ifndef CHECK_H
 #define CHECK_H
 
@@ -6,16 +6,16 @@
 #include <stddef.h>
 #include <stdint.h>
 
-/* The call is accepted. */
+/* Checks that a call is accepted. */
 void accepted(const char *what, uint32_t answer);
 
-/* It is so. */
+/* Checks that a condition holds. */
 void expect(const char *what, bool so);
 
-/* The bytes are the same. */
+/* Checks that the bytes are the same. */
 void same(const char *what, const uint8_t *a, const uint8_t *b, size_t length);
 
-/* Memory for length bytes, and one where that is 0: no pointer that is lent is NULL. */
+/* Allocates length bytes, or one byte if length is 0, so that no pointer passed to a call is NULL. */
 uint8_t *allocate(size_t length);
 
 #endif

@@ -30,7 +30,7 @@ void write_byte(cartridge *cart, uint32_t address, uint8_t value)
     accepted("byte write", gbasave_save_write(&cart->record, cart->memory, cart->length, address, value));
 }
 
-/* Every flash command begins so. */
+/* A flash command: the two bytes that begin every command, then the command itself. */
 static void flash_command(cartridge *cart, uint32_t address, uint8_t command)
 {
     write_byte(cart, 0x0E005555, 0xAA);
@@ -61,7 +61,7 @@ void flash_erase_sector(cartridge *cart, uint32_t address)
     flash_command(cart, address, 0x30);
 }
 
-/* The lowest width bits of number, highest first; answers the place behind them. */
+/* Writes the lowest width bits of number, highest first. Returns the position after them. */
 static uint8_t *put_bits(uint8_t *bits, uint64_t number, int width)
 {
     for (int place = width - 1; place >= 0; place--)
@@ -98,7 +98,7 @@ uint64_t eeprom_read_block(cartridge *cart, uint32_t block)
     accepted("DMA", gbasave_eeprom_begin_dma(&cart->record, READ_BITS));
     eeprom_send(cart, bits, READ_BITS);
 
-    uint64_t data = 0; /* the first four of the 68 bits are to be ignored */
+    uint64_t data = 0; /* the first four of the 68 bits are ignored */
     accepted("DMA", gbasave_eeprom_begin_dma(&cart->record, 68));
     for (int i = 0; i < 68; i++) {
         uint32_t bit;

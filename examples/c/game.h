@@ -10,7 +10,7 @@ enum {
     READ_BITS = 17   /* 1 1, 14 bits of address, the end bit */
 };
 
-/* An image with a sound header and the marker at its very end, to be freed. */
+/* Makes an image with a correct header and the marker at its end. The caller frees it. */
 uint8_t *make_image(const char *title, const char *marker);
 
 uint8_t read_byte(const cartridge *cart, uint32_t address);
@@ -21,7 +21,7 @@ void flash_select_bank(cartridge *cart, uint8_t bank);
 void flash_program(cartridge *cart, uint32_t address, uint8_t value);
 void flash_erase_sector(cartridge *cart, uint32_t address);
 
-/* The bits of a write, to be sent behind a DMA length of WRITE_BITS. */
+/* The bits of a write command. They are sent after a DMA length of WRITE_BITS. */
 void eeprom_write_bits(uint8_t bits[WRITE_BITS], uint32_t block, uint64_t data);
 void eeprom_send(cartridge *cart, const uint8_t *bits, int count);
 

@@ -1,9 +1,9 @@
 /*
- * A small host: it opens images, plays saves on every chip, takes a state in the middle of an 81-bit write and resumes it
- * in a fresh cartridge. Every answer is checked; a wrong one ends it with status 1.
+ * A small host. It opens images, saves on every chip, takes a state in the middle of an 81-bit write and resumes it in a
+ * fresh cartridge. It checks every answer; a wrong one ends the program with status 1.
  *
- *     host           the stories, on images made here
- *     host IMAGE     what the part says of an image file
+ *     host           runs the examples below, on images that the program makes
+ *     host IMAGE     prints what the part finds in an image file
  */
 #include "check.h"
 #include "game.h"
@@ -29,8 +29,8 @@ static void describe(const uint8_t *image, size_t length)
     accepted("CRC", gbasave_rom_crc(image, length, &crc));
     accepted("kind", gbasave_detect_save_type(image, length, &kind));
     accepted("memory", gbasave_memory_size(kind, &size));
-    printf("Image \"%.*s\", %zu bytes, CRC %08" PRIX32 ", header check %02" PRIX32 " %s\n", (int)title_length, (char *)title,
-           length, crc, check, check == there ? "as it says" : "but it says another");
+    printf("Image \"%.*s\", %zu bytes, CRC %08" PRIX32 ", header check %02" PRIX32 ", %s\n", (int)title_length, (char *)title,
+           length, crc, check, check == there ? "as in the header" : "but the header has another value");
     printf("  save chip: %s; save memory: %" PRIu32 " bytes\n", KIND_NAMES[kind], size);
 }
 
@@ -60,12 +60,12 @@ static void sram_story(void)
     for (uint32_t i = 0; i < 4; i++)
         write_byte(&cart, 0x0E000010 + i, (uint8_t)"SAVE"[i]);
     for (uint32_t i = 0; i < 4; i++)
-        expect("the bytes are there, also 32 KiB further on",
+        expect("the bytes are stored, and read 32 KiB further on too",
                read_byte(&cart, 0x0E000010 + i) == "SAVE"[i] && read_byte(&cart, 0x0E008010 + i) == "SAVE"[i]);
     print_bytes("stored from 10h on", cart.memory + 0x10, 5);
     expect("the flag is taken once", take_flag(&cart) == 1 && take_flag(&cart) == 0);
 
-    /* The file goes to another cartridge, with 16 bytes behind it as some programs add them. */
+    /* Another cartridge imports the file, with 16 bytes after it that some programs add. */
     saved_state state = take_state(&cart);
     uint8_t *file = allocate(state.length + 16);
     uint32_t kept;
@@ -115,7 +115,7 @@ static const uint8_t DATA_BYTES[] = {0x01, 0x23, 0x45, 0x67, 0x89, 0xAB, 0xCD, 0
 
 enum { UNCUT = WRITE_BITS + 1 };
 
-/* Behind so many bits of the write the game is cut off, and goes on in a fresh cartridge. */
+/* Interrupts the game after `cut` bits of the write, and goes on in a fresh cartridge. */
 static saved_state played(const uint8_t *image, int cut, bool shown)
 {
     cartridge cart;
@@ -130,7 +130,7 @@ static saved_state played(const uint8_t *image, int cut, bool shown)
         sent = cut;
         saved_state state = take_state(&cart);
         if (shown) {
-            printf("  behind bit %d: a file of %" PRIu32 " bytes and the chip's state\n", cut, state.length);
+            printf("  after bit %d: a file of %" PRIu32 " bytes and the chip's state\n", cut, state.length);
             print_bytes("", state.chip, GBASAVE_STATE_SIZE);
         }
         cartridge_close(&cart);
@@ -151,7 +151,7 @@ static saved_state played(const uint8_t *image, int cut, bool shown)
 
 static void same_states(const saved_state *a, const saved_state *b)
 {
-    expect("the files are as long", a->length == b->length);
+    expect("the files have the same length", a->length == b->length);
     same("the files", a->file, b->file, a->length);
     same("the chips", a->chip, b->chip, GBASAVE_STATE_SIZE);
 }
@@ -173,7 +173,7 @@ static void eeprom_story(void)
         same_states(&uncut, &resumed);
         drop_state(&resumed);
     }
-    printf("  cut behind the DMA length and behind each of the 81 bits: the same blocks, file and chip\n");
+    printf("  cut after the DMA length and after each of the 81 bits: the same blocks, file and chip\n");
     drop_state(&uncut);
     free(image);
 }

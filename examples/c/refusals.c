@@ -15,7 +15,7 @@ static void shown(uint32_t number, const char *what, uint32_t answer)
     printf("  %2u  %-46s %s\n", (unsigned)answer, what, gbasave_refusal_text(answer));
 }
 
-/* A cartridge beside a copy of it, to see that a refused call changes nothing. */
+/* A cartridge and a copy of it, to check that a refused call changes nothing. */
 typedef struct pair {
     cartridge cart;
     cartridge before;
@@ -53,8 +53,8 @@ static void image_refused(void)
     memset(&record, 0xEE, sizeof record);
     shown(GBASAVE_REFUSED_IMAGE_LENGTH, "an image of 191 bytes",
           gbasave_from_bytes(&record, image, sizeof image, memory, 0));
-    same("a refused opening leaves 24 zeros", record.bytes, zeros.bytes, GBASAVE_RECORD_SIZE);
-    expect("a refused opening leaves the memory", memory[0] == 0x5A);
+    same("a refused opening writes 24 zeros to the record", record.bytes, zeros.bytes, GBASAVE_RECORD_SIZE);
+    expect("a refused opening does not change the memory", memory[0] == 0x5A);
     expect("its kind is refused too",
            gbasave_detect_save_type(image, sizeof image, &kind) == GBASAVE_REFUSED_IMAGE_LENGTH && kind == UNTOUCHED);
 }
@@ -65,9 +65,9 @@ static void record_refused(void)
     uint8_t memory[1];
     uint32_t value = UNTOUCHED;
     memset(&record, 0xEE, sizeof record);
-    shown(GBASAVE_REFUSED_RECORD, "a byte read with 24 foreign bytes",
+    shown(GBASAVE_REFUSED_RECORD, "a byte read with an invalid record",
           gbasave_save_read(&record, memory, 0, 0x0E000000, &value));
-    expect("a refused read leaves the place", value == UNTOUCHED);
+    expect("a refused read does not change the out-parameter", value == UNTOUCHED);
 }
 
 static void byte_refused(void)
@@ -99,7 +99,7 @@ static void serial_refused(void)
         accepted("DMA", gbasave_eeprom_begin_dma(&cart->record, WRITE_BITS));
         eeprom_send(cart, bits, 2 + 6);
     }
-    refused(&p, GBASAVE_REFUSED_DMA_TOO_LATE, "DMA 73 behind six bits of an address",
+    refused(&p, GBASAVE_REFUSED_DMA_TOO_LATE, "DMA 73 after six bits of an address",
             gbasave_eeprom_begin_dma(&p.cart.record, 73));
 
     accepted("chip state", gbasave_chip_state(&p.cart.record, state));
@@ -123,17 +123,17 @@ static void file_refused(void)
     memset(destination, 0x5A, cart->length);
     refused(&p, GBASAVE_REFUSED_DESTINATION_LENGTH, "an export to 32,767 bytes",
             gbasave_save_data(&cart->record, cart->memory, cart->length, destination, cart->length - 1, &length));
-    expect("a refused export leaves destination and place", destination[0] == 0x5A && length == UNTOUCHED);
+    expect("a refused export changes neither destination nor out-parameter", destination[0] == 0x5A && length == UNTOUCHED);
     refused(&p, GBASAVE_REFUSED_FILE_LENGTH, "an import of 32,767 bytes",
             gbasave_import_save(&cart->record, cart->memory, cart->length, destination, cart->length - 1, &length));
-    expect("a refused import leaves the place", length == UNTOUCHED);
+    expect("a refused import does not change the out-parameter", length == UNTOUCHED);
     free(destination);
     close_pair(&p);
 }
 
 void refusals(void)
 {
-    printf("Refusals; each leaves record, memory, destination and places as they were\n");
+    printf("Refusals; nothing is changed, except that a refused opening writes 24 zeros to the record\n");
     image_refused();
     record_refused();
     byte_refused();
@@ -141,7 +141,7 @@ void refusals(void)
     file_refused();
 }
 
-/* Without NULL this is promised. With NULL it works today; the part's header does not promise it. */
+/* Without NULL the header promises this. With NULL it works today, but the header does not promise it. */
 static void empty_at(uint8_t *nowhere)
 {
     uint8_t *image = make_image("NO CHIP", "");
@@ -157,7 +157,7 @@ static void empty_at(uint8_t *nowhere)
     accepted("byte read", gbasave_save_read(&record, nowhere, 0, 0x0E000000, &value));
     expect("no chip reads FFh", value == 0xFF);
     accepted("bit out", gbasave_eeprom_read(&record, nowhere, 0, &value));
-    expect("no chip gives 1", value == 1);
+    expect("no chip reads bit 1", value == 1);
     accepted("load of no bytes", gbasave_load_save(&record, nowhere, 0, nowhere, 0));
     accepted("export", gbasave_save_data(&record, nowhere, 0, nowhere, 0, &value));
     expect("no file", value == 0);
@@ -171,7 +171,7 @@ static void empty_at(uint8_t *nowhere)
 void empty_slices(void)
 {
     uint8_t somewhere = 0;
-    printf("Slices of no bytes\n");
+    printf("Buffers of length 0\n");
     empty_at(&somewhere);
     printf("  with a pointer: as the header promises\n");
     empty_at(NULL);

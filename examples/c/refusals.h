@@ -1,4 +1,4 @@
-/* Every refusal once, and slices of no bytes. */
+/* Every refusal once, and buffers of length 0. */
 #ifndef REFUSALS_H
 #define REFUSALS_H
 

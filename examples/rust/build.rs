@@ -1,5 +1,5 @@
-//! Tells the compiler where the installed part is: in the folder that GBASAVE_PREFIX names, seen from this one, or else where
-//! the repository's `./install` puts it.
+//! Tells the compiler where the installed archive is: in the folder that GBASAVE_PREFIX names, relative to this one, or else
+//! where the repository's `./install` puts it.
 
 use std::{env, path::Path};
 
@@ -9,7 +9,7 @@ fn main() {
     let prefix = Path::new(&here).join(prefix);
     let (lib, header) = (prefix.join("lib"), prefix.join("include/gbasave.h"));
     let archive = lib.join("libgbasave.a");
-    assert!(archive.is_file(), "{} is missing; ./install writes it, GBASAVE_PREFIX names another prefix", archive.display());
+    assert!(archive.is_file(), "{} is missing; run ./install, or set GBASAVE_PREFIX to its prefix", archive.display());
     println!("cargo:rustc-link-search=native={}", lib.display());
     println!("cargo:rustc-env=GBASAVE_HEADER={}", header.display());
     println!("cargo:rerun-if-changed={}", archive.display());

@@ -1,4 +1,4 @@
-/* An EEPROM block written by 81 bits and read back: without a cut, and with one behind each bit. The outputs are the same. */
+/* Writes an EEPROM block by 81 bits and reads it back, without a cut and with a cut after each call. The output is the same. */
 #include <gbasave_replay.h>
 
 #include <stdio.h>
@@ -11,12 +11,12 @@ typedef struct list {
     uint8_t bytes[LIST];
     size_t length;
     int items;
-    int cut_behind; /* the item behind which the cut falls */
+    int cut_after; /* the number of the item after which the cut is made */
 } list;
 
 static void end_item(list *l)
 {
-    if (l->items++ == l->cut_behind)
+    if (l->items++ == l->cut_after)
         l->bytes[l->length++] = 0x0A;
 }
 
@@ -34,10 +34,10 @@ static void bits(list *l, uint64_t value, int count)
         halfword(l, 0x04, (unsigned)(value >> count & 1));
 }
 
-/* DMA 81, the 81 bits; DMA 17, the 17 bits, and 68 reads. */
-static list write_and_read(int cut_behind)
+/* DMA 81 and the 81 bits; DMA 17 and the 17 bits; 68 reads. */
+static list write_and_read(int cut_after)
 {
-    list l = {.length = 0, .items = 0, .cut_behind = cut_behind};
+    list l = {.length = 0, .items = 0, .cut_after = cut_after};
     halfword(&l, 0x05, 81);
     bits(&l, 2, 2);
     bits(&l, 100, 14);
@@ -84,16 +84,16 @@ int main(void)
         list with_cut = write_and_read(item);
         play(&with_cut, cut);
         if (memcmp(cut, uncut, OUT) != 0) {
-            printf("another output with a cut behind item %d\n", item);
+            printf("a cut after item %d changes the output\n", item);
             return 1;
         }
         same++;
     }
-    printf("a cut behind each of %d calls: the same %d times\n", l.items, same);
+    printf("a cut after each of %d calls: the same output %d times\n", l.items, same);
 
     const uint8_t none[] = {0x04, 0x00};
     uint8_t out[32];
     uint8_t memory[1], image[192] = {0};
-    printf("no list: %02X\n", (unsigned)gbasave_replay(image, sizeof image, none, sizeof none, memory, 0, memory, 0, out, sizeof out));
+    printf("not a list: %02X\n", (unsigned)gbasave_replay(image, sizeof image, none, sizeof none, memory, 0, memory, 0, out, sizeof out));
     return 0;
 }

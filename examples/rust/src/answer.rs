@@ -1,23 +1,23 @@
-//! What a call answers, as a `Result`.
+//! The return value of a call, as a `Result`.
 
 use crate::Refusal;
 
-/// 0 is accepted, every other number a refusal.
+/// 0 means accepted, every other number is a refusal.
 pub fn accepted(answer: u32) -> Result<(), Refusal> {
     match answer {
         0 => Ok(()),
-        number => Err(Refusal::of(number).expect("the archive is this header's")),
+        number => Err(Refusal::of(number).expect("the archive belongs to this header")),
     }
 }
 
-/// The value that the call puts into its place.
+/// Returns the value that the call writes to its out-parameter.
 pub fn value(call: impl FnOnce(&mut u32) -> u32) -> Result<u32, Refusal> {
     let mut value = 0;
     accepted(call(&mut value))?;
     Ok(value)
 }
 
-/// Of a call that a cartridge with its own record and memory cannot be refused.
+/// Returns the value of a call that cannot be refused, since the cartridge owns its record and its memory.
 pub fn sound<T>(answer: Result<T, Refusal>) -> T {
     answer.expect("record and memory are the cartridge's own")
 }

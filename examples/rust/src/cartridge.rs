@@ -6,7 +6,7 @@ use crate::answer::{accepted, sound, value};
 use crate::raw::{self, Record, RECORD_KIND, RECORD_SIZE, STATE_SIZE};
 use crate::{save_size, ChipState, Kind, Refusal};
 
-/// A cartridge's backup chip: save memory and record. Both are the cartridge's own, so no call meets the wrong ones.
+/// A cartridge's backup chip: save memory and record. The cartridge owns both, so no call can get the wrong ones.
 #[derive(Clone, PartialEq, Eq)]
 pub struct Cartridge {
     record: Record,
@@ -14,7 +14,7 @@ pub struct Cartridge {
 }
 
 impl Cartridge {
-    /// A fresh cartridge: the kind is found in the image, the memory is erased. Refused: [`Refusal::ImageLength`].
+    /// Opens a fresh cartridge: finds the kind in the image and erases the memory. Refused: [`Refusal::ImageLength`].
     pub fn open(image: &[u8]) -> Result<Self, Refusal> {
         let mut cart = Self { record: [0; RECORD_SIZE], memory: vec![0; save_size(image)] };
         let (memory, length) = (cart.memory.as_mut_ptr(), cart.memory.len());
@@ -30,29 +30,29 @@ impl Cartridge {
         &self.memory
     }
 
-    /// The byte that a game reads at a bus address.
+    /// Returns the byte that a game reads at a bus address.
     pub fn save_read(&self, address: u32) -> u8 {
         let (memory, length) = (self.memory.as_ptr(), self.memory.len());
         sound(value(|value| unsafe { raw::gbasave_save_read(&self.record, memory, length, address, value) })) as u8
     }
 
-    /// A game writes a byte at a bus address: SRAM stores it, flash takes it as a step of a command.
+    /// Writes a game's byte at a bus address: SRAM stores it, flash takes it as a step of a command.
     pub fn save_write(&mut self, address: u32, value: u8) {
         let (memory, length) = (self.memory.as_mut_ptr(), self.memory.len());
         sound(accepted(unsafe { raw::gbasave_save_write(&mut self.record, memory, length, address, value) }));
     }
 
-    /// Whether the game's halfwords in the EEPROM's window are for this cartridge.
+    /// Returns whether the game's halfwords in the EEPROM's window are for this cartridge.
     pub fn uses_eeprom(&self) -> bool {
         sound(value(|answer| unsafe { raw::gbasave_uses_eeprom(&self.record, answer) })) == 1
     }
 
-    /// Where on the bus the EEPROM begins.
+    /// Returns the bus address at which the EEPROM begins.
     pub fn eeprom_window_start(&self) -> u32 {
         sound(value(|start| unsafe { raw::gbasave_eeprom_window_start(&self.record, start) }))
     }
 
-    /// Tells the length of a DMA transfer before its first bit. Refused: [`Refusal::DmaTooLate`].
+    /// Announces the length of a DMA transfer before its first bit. Refused: [`Refusal::DmaTooLate`].
     pub fn eeprom_begin_dma(&mut self, words: u32) -> Result<(), Refusal> {
         accepted(unsafe { raw::gbasave_eeprom_begin_dma(&mut self.record, words) })
     }
@@ -63,13 +63,13 @@ impl Cartridge {
         accepted(unsafe { raw::gbasave_eeprom_write(&mut self.record, memory, length, value) })
     }
 
-    /// Gives a bit, as a halfword.
+    /// Returns one bit, as a halfword.
     pub fn eeprom_read(&mut self) -> u16 {
         let (memory, length) = (self.memory.as_ptr(), self.memory.len());
         sound(value(|bit| unsafe { raw::gbasave_eeprom_read(&mut self.record, memory, length, bit) })) as u16
     }
 
-    /// The save file, where the kind has one.
+    /// Returns the save file, if the kind has one.
     pub fn save_data(&self) -> Option<Vec<u8>> {
         let mut file = vec![0; self.memory.len()];
         let (memory, room, to) = (self.memory.as_ptr(), file.len(), file.as_mut_ptr());
@@ -78,7 +78,7 @@ impl Cartridge {
         (length > 0).then_some(file)
     }
 
-    /// Takes a player's file in and answers how much of it was kept. Refused: [`Refusal::FileLength`].
+    /// Imports a player's file and returns how many bytes of it were kept. Refused: [`Refusal::FileLength`].
     pub fn import_save(&mut self, file: &[u8]) -> Result<usize, Refusal> {
         let (memory, length) = (self.memory.as_mut_ptr(), self.memory.len());
         let kept = value(|kept| unsafe {
@@ -87,25 +87,27 @@ impl Cartridge {
         Ok(kept as usize)
     }
 
-    /// Loads a file of any length into an erased memory; what is too long for it falls away.
+    /// Erases the memory and loads a file of any length. Bytes for which there is no room are ignored.
     pub fn load_save(&mut self, file: &[u8]) {
         let (memory, length) = (self.memory.as_mut_ptr(), self.memory.len());
         sound(accepted(unsafe { raw::gbasave_load_save(&mut self.record, memory, length, file.as_ptr(), file.len()) }));
     }
 
-    /// Whether anything was stored since this was last asked.
+    /// Returns the changed flag and clears it: whether a write has stored anything since the last call. Byte writes to an
+    /// EEPROM kind, loads and imports do not set the flag.
     pub fn take_save_dirty(&mut self) -> bool {
         sound(value(|flag| unsafe { raw::gbasave_take_save_dirty(&mut self.record, flag) })) == 1
     }
 
-    /// The chip record.
+    /// Returns the chip record.
     pub fn chip_state(&self) -> ChipState {
         let mut state = [0; STATE_SIZE];
         sound(accepted(unsafe { raw::gbasave_chip_state(&self.record, &mut state) }));
         state
     }
 
-    /// Puts a chip record in, also a stranger's. Refused: [`Refusal::StateLength`] to [`Refusal::StateCount`].
+    /// Replaces the chip record. The new one may come from an untrusted source. Refused: [`Refusal::StateLength`] to
+    /// [`Refusal::StateCount`].
     pub fn restore_chip_state(&mut self, state: &[u8]) -> Result<(), Refusal> {
         accepted(unsafe { raw::gbasave_restore_chip_state(&mut self.record, state.as_ptr(), state.len()) })
     }

@@ -15,19 +15,19 @@ pub enum Kind {
 }
 
 impl Kind {
-    /// All of them, in the order of their numbers.
+    /// All kinds, in the order of their numbers.
     pub const ALL: [Self; 6] = [Self::None, Self::Sram, Self::Flash64, Self::Flash128, Self::Eeprom512, Self::Eeprom8k];
 
     pub fn number(self) -> u32 {
         self as u32
     }
 
-    /// The kind of a number, 0 to 5.
+    /// Returns the kind with this number, 0 to 5.
     pub fn of(number: u32) -> Option<Self> {
         Self::ALL.get(number as usize).copied()
     }
 
-    /// How many bytes of save memory the kind has.
+    /// Returns the size of the kind's save memory in bytes.
     pub fn memory_size(self) -> usize {
         value(|size| unsafe { raw::gbasave_memory_size(self.number(), size) }).expect("every kind has a size") as usize
     }

@@ -1,8 +1,8 @@
-//! The backup chip of a Game Boy Advance cartridge (SRAM, flash, serial EEPROM): a safe wrapper of the calls in `gbasave.h`,
-//! whose comments say in full what each one does.
+//! The backup chip of a Game Boy Advance cartridge (SRAM, flash, serial EEPROM): a safe wrapper of the calls in `gbasave.h`.
+//! The comments there say in full what each call does.
 //!
-//! A [`Cartridge`] owns its save memory and its record; the image is lent at opening alone. So the refusals that concern
-//! them cannot happen here, and the calls that could have no other do not answer a `Result`.
+//! A [`Cartridge`] owns its save memory and its record. The image is borrowed only when the cartridge is opened. So the
+//! refusals about record and memory cannot occur here, and a call that has no other refusals does not return a `Result`.
 //!
 //! ```
 //! use gbasave::{Cartridge, Kind};

@@ -1,13 +1,13 @@
-//! The part's calls as the archive has them. Each answers 0 or a refusal's number; a slice is a pointer and a length.
+//! The calls of the archive. Each returns 0 or the number of a refusal. A buffer is a pointer and a length.
 //!
-//! What callers owe is in `gbasave.h`: no pointer is NULL, slices are as long as said, no two places overlap, and nobody else
-//! writes to them meanwhile. Rust's own borrows meet all of it, also those of empty slices.
+//! `gbasave.h` says what the caller has to ensure: no pointer is NULL, buffers are as long as their lengths say, no two objects
+//! overlap, and nothing else writes to them during the call. Rust's borrows ensure all of this, also for empty slices.
 
 pub const RECORD_SIZE: usize = 24;
 pub const STATE_SIZE: usize = 18;
 pub const TITLE_SIZE: usize = 36;
 
-/// Where the record has its kind.
+/// The offset of the kind in the record.
 pub const RECORD_KIND: usize = 4;
 
 pub type Record = [u8; RECORD_SIZE];

@@ -2,7 +2,7 @@
 
 use std::{error, fmt};
 
-/// Why a call is refused, by the number that it answers. A refused call changes nothing.
+/// Why a call is refused, by the number that it returns. A refused call changes nothing.
 #[derive(Clone, Copy, Debug, PartialEq, Eq, Hash)]
 #[repr(u32)]
 pub enum Refusal {
@@ -23,7 +23,7 @@ pub enum Refusal {
 }
 
 impl Refusal {
-    /// All of them, in the order of their numbers.
+    /// All refusals, in the order of their numbers.
     pub const ALL: [Self; 14] = [
         Self::ImageLength,
         Self::Record,
@@ -45,12 +45,12 @@ impl Refusal {
         self as u32
     }
 
-    /// The refusal of a number, 1 to 14.
+    /// Returns the refusal with this number, 1 to 14.
     pub fn of(number: u32) -> Option<Self> {
         Self::ALL.into_iter().find(|refusal| refusal.number() == number)
     }
 
-    /// The words of `gbasave_refusal_text`.
+    /// Returns the text that `gbasave_refusal_text` has for it.
     pub fn text(self) -> &'static str {
         match self {
             Self::ImageLength => "the image's length is not allowed",
@@ -85,7 +85,7 @@ mod tests {
 
     const HEADER: &str = include_str!(env!("GBASAVE_HEADER"));
 
-    /// The header's name of a number, and the words that it has for the name.
+    /// The header's name for a number, and its text for that name.
     fn in_header(number: u32) -> (&'static str, &'static str) {
         let told = format!(" = {number}");
         let line = |line: &&str| line.trim().starts_with("GBASAVE_REFUSED_") && line.trim_end_matches(',').ends_with(&told);

@@ -1,4 +1,4 @@
-//! States: what is kept of a cartridge to go on with it later.
+//! States: the data that is kept of a cartridge to resume it later.
 
 use crate::raw::STATE_SIZE;
 use crate::{Cartridge, Refusal};
@@ -6,10 +6,10 @@ use crate::{Cartridge, Refusal};
 /// The chip record.
 pub type ChipState = [u8; STATE_SIZE];
 
-/// All that is needed, beside the image, to resume a cartridge behind any call. The changed flag is not in it.
+/// All that is needed, in addition to the image, to resume a cartridge after any call. It does not contain the changed flag.
 #[derive(Clone, Debug, PartialEq, Eq)]
 pub struct State {
-    /// The save file, where the kind has one.
+    /// The save file, if the kind has one.
     pub file: Option<Vec<u8>>,
     pub chip: ChipState,
 }
@@ -19,7 +19,7 @@ impl Cartridge {
         State { file: self.save_data(), chip: self.chip_state() }
     }
 
-    /// A fresh cartridge of the image, with the state put into it.
+    /// Opens a fresh cartridge of the image and restores the state into it.
     pub fn resume(image: &[u8], state: &State) -> Result<Self, Refusal> {
         let mut cart = Self::open(image)?;
         if let Some(file) = &state.file {

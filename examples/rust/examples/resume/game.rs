@@ -7,7 +7,7 @@ pub const WRITE_BITS: usize = 81;
 /// 1 1, 14 bits of address, the end bit.
 pub const READ_BITS: usize = 17;
 
-/// An image of 1,024 bytes with a sound header and the marker at its very end.
+/// Makes an image of 1,024 bytes with a correct header and the marker at its end.
 pub fn image(title: &str, marker: &str) -> Vec<u8> {
     let mut image = vec![0; 1024];
     image[0xA0..0xA0 + title.len()].copy_from_slice(title.as_bytes());
@@ -49,12 +49,12 @@ fn bits(number: u64, width: u32) -> impl Iterator<Item = u16> {
     (0..width).rev().map(move |place| (number >> place & 1) as u16)
 }
 
-/// The bits of a write, to be sent behind a DMA length of `WRITE_BITS`.
+/// The bits of a write command. They are sent after a DMA length of `WRITE_BITS`.
 pub fn write_bits(block: u64, data: u64) -> Vec<u16> {
     bits(0b10, 2).chain(bits(block, 14)).chain(bits(data, 64)).chain([0]).collect()
 }
 
-/// The bits of a read command, to be sent behind a DMA length of `READ_BITS`.
+/// The bits of a read command. They are sent after a DMA length of `READ_BITS`.
 pub fn read_bits(block: u64) -> Vec<u16> {
     bits(0b11, 2).chain(bits(block, 14)).chain([0]).collect()
 }
@@ -72,6 +72,6 @@ pub fn read_block(cart: &mut Cartridge, block: u64) -> Result<u64, Refusal> {
     cart.eeprom_begin_dma(READ_BITS as u32)?;
     send(cart, &read_bits(block))?;
     cart.eeprom_begin_dma(68)?;
-    // Four bits to ignore go out at the top.
+    // The first four bits are ignored: they are shifted out of the 64-bit number.
     Ok((0..68).fold(0, |data, _| data << 1 | u64::from(cart.eeprom_read())))
 }

@@ -1,5 +1,5 @@
-//! A small host: it opens images, plays saves on every chip, takes a state in the middle of an 81-bit write and resumes it in a
-//! fresh cartridge. A wrong answer ends it.
+//! A small host. It opens images, saves on every chip, takes a state in the middle of an 81-bit write and resumes it in a fresh
+//! cartridge. A wrong answer ends the program.
 
 mod game;
 mod refusals;
@@ -20,9 +20,9 @@ fn name(kind: Kind) -> &'static str {
 
 fn describe(image: &[u8]) -> Result<(), Refusal> {
     let (check, kind) = (header_checksum(image)?, detect_save_type(image)?);
-    let says = if check == read(image, 0xBD)? { "as it says" } else { "but it says another" };
+    let says = if check == read(image, 0xBD)? { "as in the header" } else { "but the header has another value" };
     let (title, length, crc) = (title(image)?, image.len(), rom_crc(image)?);
-    println!("Image \"{title}\", {length} bytes, CRC {crc:08X}, header check {check:02X} {says}");
+    println!("Image \"{title}\", {length} bytes, CRC {crc:08X}, header check {check:02X}, {says}");
     println!("  save chip: {}; save memory: {} bytes", name(kind), kind.memory_size());
     Ok(())
 }
@@ -44,7 +44,7 @@ fn sram_story() -> Result<(), Refusal> {
     println!("  {:24} {}", "stored from 10h on", hex(&cart.memory()[0x10..0x15]));
     assert!(cart.take_save_dirty() && !cart.take_save_dirty());
 
-    // The file goes to another cartridge, with 16 bytes behind it as some programs add them.
+    // Another cartridge imports the file, with 16 bytes after it that some programs add.
     let mut file = cart.save_data().expect("SRAM has a file");
     file.extend([0xEE; 16]);
     let mut other = Cartridge::open(&image)?;
@@ -82,7 +82,7 @@ fn flash_story() -> Result<(), Refusal> {
 const EARLIER: u64 = 0x1122_3344_5566_7788;
 const DATA: u64 = 0x0123_4567_89AB_CDEF;
 
-/// Plays two writes. Where there is a cut, behind so many bits of the second the game goes on in a fresh cartridge.
+/// Plays two writes. If there is a cut, the game goes on in a fresh cartridge after that many bits of the second write.
 fn played(image: &[u8], cut: Option<usize>, shown: bool) -> Result<State, Refusal> {
     let mut cart = Cartridge::open(image)?;
     game::write_block(&mut cart, 3, EARLIER)?;
@@ -94,7 +94,7 @@ fn played(image: &[u8], cut: Option<usize>, shown: bool) -> Result<State, Refusa
         let state = cart.state();
         if shown {
             let length = state.file.as_ref().map_or(0, Vec::len);
-            println!("  behind bit {cut}: a file of {length} bytes and the chip's state");
+            println!("  after bit {cut}: a file of {length} bytes and the chip's state");
             println!("  {:24} {}", "", hex(&state.chip));
         }
         cart = Cartridge::resume(image, &state)?;
@@ -118,9 +118,9 @@ fn eeprom_story() -> Result<(), Refusal> {
     let uncut = played(&image, None, true)?;
     assert!(played(&image, Some(40), true)? == uncut);
     for cut in 0..=WRITE_BITS {
-        assert!(played(&image, Some(cut), false)? == uncut, "cut behind bit {cut}");
+        assert!(played(&image, Some(cut), false)? == uncut, "cut after bit {cut}");
     }
-    println!("  cut behind the DMA length and behind each of the 81 bits: the same blocks, file and chip");
+    println!("  cut after the DMA length and after each of the 81 bits: the same blocks, file and chip");
     Ok(())
 }
 

@@ -1,4 +1,4 @@
-//! Every refusal that a cartridge with its own record and memory can meet.
+//! Every refusal that can occur when a cartridge owns its record and its memory.
 
 use crate::game::{self, image, WRITE_BITS};
 use gbasave::{Cartridge, Refusal};
@@ -20,7 +20,7 @@ pub fn shown() -> Result<(), Refusal> {
     cart.eeprom_begin_dma(WRITE_BITS as u32)?;
     game::send(&mut cart, &game::write_bits(100, 0)[..2 + 6])?;
     let before = cart.clone();
-    refused(Refusal::DmaTooLate, "DMA 73 behind six bits of an address", cart.eeprom_begin_dma(73));
+    refused(Refusal::DmaTooLate, "DMA 73 after six bits of an address", cart.eeprom_begin_dma(73));
     let state = cart.chip_state();
     refused(Refusal::StateLength, "a state of 17 bytes", cart.restore_chip_state(&state[..17]));
     for (refusal, what, place, value) in [

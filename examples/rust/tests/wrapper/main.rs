@@ -1,4 +1,4 @@
-//! The wrapper's calls, one after another.
+//! Tests of the wrapper's calls.
 
 mod bytes;
 mod files;
@@ -10,7 +10,7 @@ mod states;
 
 use gbasave::Kind;
 
-/// A marker for each kind; `Eeprom8k` takes an image above 16 MiB.
+/// A marker for each kind except `Eeprom8k`, which takes an image above 16 MiB.
 const MARKERS: [(Kind, &str); 5] = [
     (Kind::None, ""),
     (Kind::Sram, "SRAM_V"),
@@ -19,7 +19,7 @@ const MARKERS: [(Kind, &str); 5] = [
     (Kind::Eeprom512, "EEPROM_V"),
 ];
 
-/// A small image of each kind but `Eeprom8k`.
+/// A small image of each kind except `Eeprom8k`.
 fn images() -> impl Iterator<Item = (Kind, Vec<u8>)> {
     MARKERS.into_iter().map(|(kind, marker)| (kind, game::image("TEST", marker)))
 }

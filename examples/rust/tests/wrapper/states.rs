@@ -2,7 +2,7 @@ use crate::{game, images};
 use gbasave::{Cartridge, Refusal};
 
 #[test]
-fn a_state_resumes_behind_every_bit() {
+fn a_state_resumes_after_every_bit() {
     let image = game::image("TEST", "EEPROM_V");
     let bits = [game::write_bits(100, 0x0123_4567_89AB_CDEF), game::read_bits(100)].concat();
     let mut uncut = Cartridge::open(&image).unwrap();
@@ -29,7 +29,7 @@ fn kinds_without_a_file_resume_too() {
 }
 
 #[test]
-fn strangers_states_are_refused_by_the_first_number() {
+fn untrusted_states_are_refused_by_the_first_number() {
     let mut cart = Cartridge::open(&game::image("TEST", "EEPROM_V")).unwrap();
     let before = cart.clone();
     let mut refused = |bytes: &[(usize, u8)], refusal| {
