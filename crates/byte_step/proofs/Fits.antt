@@ -10,7 +10,7 @@ use Rattle.kind.specs.Kind.{memorySize}
 use Rattle.flash.specs.declared.Flash.{Flash}
 use Rattle.flash.specs.Flash.{place, flashWrite}
 use Rattle.flash.proofs.Sound.{way, fits-way}
-use Rattle.byte_step.specs.ByteStep.{writeByte}
+use Rattle.byte_step.specs.ByteStep.{writeStep}
 
 place-lt : (f : Flash) (n a : ℕ) → 0 < n → place f n a < n
 unfolding place
@@ -19,8 +19,8 @@ place-lt f n a h = mod-lt _ h
 flash-fits : (f : Flash) (n a v : ℕ) → 0 < n → n % 4096 ≡ 0 → Fits (flashWrite f n a v .store) n
 flash-fits f n a v h e = fits-way n (n / 4096) (omega arith) (place-lt f n a h) (way f n a v)
 
-pub step-fits : (k : SaveType) (f : Flash) (n a v : ℕ) → n ≡ memorySize k → Fits (writeByte k f n a v .store) n
-unfolding writeByte
+pub step-fits : (k : SaveType) (f : Flash) (n a v : ℕ) → n ≡ memorySize k → Fits (writeStep k f n a v .store) n
+unfolding writeStep
 step-fits None f n a v e = tt
 step-fits Sram f n a v e = omega (arith, e)
 step-fits Flash64 f n a v e = flash-fits f n a v (omega (arith, e)) (omega (arith, e))

@@ -42,16 +42,16 @@ abbrev pub ofFlash : FlashStep → ByteStep
 ofFlash t = stepTo (t .flash) (stores (t .store)) (t .store)
 
 -- "a write sets the flag. None: .. writes nothing. EEPROM kinds: .. flag not set."; the memory has n bytes
-unfoldable pub writeByte : SaveType → Flash → ℕ → ℕ → ℕ → ByteStep
-writeByte None f n a v = stepTo f false Nothing
-writeByte Sram f n a v = stepTo f true (Byte (a % 32768) v)
-writeByte Flash64 f n a v = ofFlash (flashWrite f n a v)
-writeByte Flash128 f n a v = ofFlash (flashWrite f n a v)
-writeByte Eeprom512 f n a v = stepTo f false (Byte (a % 8192) v)
-writeByte Eeprom8k f n a v = stepTo f false (Byte (a % 8192) v)
+unfoldable pub writeStep : SaveType → Flash → ℕ → ℕ → ℕ → ByteStep
+writeStep None f n a v = stepTo f false Nothing
+writeStep Sram f n a v = stepTo f true (Byte (a % 32768) v)
+writeStep Flash64 f n a v = ofFlash (flashWrite f n a v)
+writeStep Flash128 f n a v = ofFlash (flashWrite f n a v)
+writeStep Eeprom512 f n a v = stepTo f false (Byte (a % 8192) v)
+writeStep Eeprom8k f n a v = stepTo f false (Byte (a % 8192) v)
 
 -- the chip with its memory and the flag after it
-abbrev pub written : SaveType → Held Flash → ℕ → ℕ → Held Flash
-written kind x a v =
-    let t = writeByte kind (x .chip) (length (x .memory)) a v in
+abbrev pub afterWrite : SaveType → Held Flash → ℕ → ℕ → Held Flash
+afterWrite kind x a v =
+    let t = writeStep kind (x .chip) (length (x .memory)) a v in
     changed (t .flash) (t .store) [] (t .sets) x

@@ -13,7 +13,7 @@ ghost use Prim.Native.Nat.{_<_};
 ghost use lib.ListN.{length};
 ghost use Rattle.kind.specs.Kind.{memorySize};
 ghost use Rattle.flash.specs.Flash.{flashRead, flashWrite};
-ghost use Rattle.byte_step.specs.ByteStep.{stepTo, ofFlash, idWord, readByte, writeByte};
+ghost use Rattle.byte_step.specs.ByteStep.{stepTo, ofFlash, idWord, readByte, writeStep};
 
 // What a written byte leads to: the flash chip, whether the changed flag is set, and what is to be stored.
 pub struct ByteStep {
@@ -76,7 +76,7 @@ fn flash_step(flash: Flash, n: usize, address: u32, value: u8) -> ByteStep
 // In a memory of n bytes. The kinds are in groups, of which the compiler makes tests and no jump table.
 pub fn write_byte(kind: SaveType, flash: Flash, n: usize, address: u32, value: u8) -> ByteStep
     requires { ⌜ n ≡ memorySize kind ⌝ }
-    ensures { λ r. ⌜ r ≡ writeByte kind flash n address value ⌝ }
+    ensures { λ r. ⌜ r ≡ writeStep kind flash n address value ⌝ }
 {
     match kind {
         SaveType::None => step_to(flash, false, Store::Nothing),

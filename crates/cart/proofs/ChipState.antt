@@ -21,7 +21,7 @@ use Rattle.eeprom.specs.declared.EepromPhase.the-variants.{Opcode, ReadAddress,
 use Rattle.eeprom.specs.Eeprom.{byPhase, wOf, countLimit}
 use Rattle.eeprom.proofs.Sound.{Sound as EepromSound, block-1024, count-64}
 use Rattle.cart.specs.declared.ChipRecord.{ChipRecord}
-use Rattle.cart.specs.ChipState.{phaseNumber, phaseOf, bit, chipBytes, chipOf, stateQuestions}
+use Rattle.cart.specs.ChipState.{phaseNumber, phaseOf, bit, chipBytes, chipOf, fieldQuestions, stateQuestions}
 
 pub phase-le : (p : EepromPhase) → leb (phaseNumber p) 6 ≡ true
 phase-le Opcode = refl
@@ -51,36 +51,41 @@ bit-back true = refl
 bit-back false = refl
 
 -- a chip that a run from a fresh one can reach is allowed
-pub chip-allowed : (c : ChipRecord) → FlashSound (c .flash) → EepromSound (c .eeprom) → asked (stateQuestions (chipBytes c)) ≡ 0
-unfolding stateQuestions chipBytes lowFirst lowValue
+pub chip-allowed : (c : ChipRecord) → FlashSound (c .flash) → EepromSound (c .eeprom) → asked (fieldQuestions (chipBytes c)) ≡ 0
+unfolding fieldQuestions chipBytes lowFirst lowValue
 chip-allowed c f s =
     let e = c .eeprom in
     let o = s .serialOk in
     let n = count-64 e s in
     let k = block-1024 (e .large) (e .block) (o .blockOk) in
     let r = o .placeOk in
-    all-yes (stateQuestions (chipBytes c)) (
-      refl,
+    all-yes (fieldQuestions (chipBytes c)) (
+      phase-le (e .phase),
       (
-        phase-le (e .phase),
+        f .stateOk,
         (
-          f .stateOk,
+          rw (le-leb (c .flash .bank) 1 (f .bankOk), bit-le (c .flash .id), bit-le (e .large)),
           (
-            rw (le-leb (c .flash .bank) 1 (f .bankOk), bit-le (c .flash .id), bit-le (e .large)),
+            s .widthOk,
             (
-              s .widthOk,
+              rw (le-leb (e .count) 64 (omega arith), le-leb (e .place) 67 (omega arith), le-leb (e .block % 256 + 256 * (e .block / 256)) 1023 (omega arith)),
               (
-                rw (le-leb (e .count) 64 (omega arith), le-leb (e .place) 67 (omega arith), le-leb (e .block % 256 + 256 * (e .block / 256)) 1023 (omega arith)),
-                (
-                  rw (phase-back (e .phase), bit-back (e .large)) (lt-ltb (e .count) (countLimit (e .phase) (wOf e)) (o .countOk)),
-                  tt,
-                ),
+                rw (phase-back (e .phase), bit-back (e .large)) (lt-ltb (e .count) (countLimit (e .phase) (wOf e)) (o .countOk)),
+                tt,
               ),
             ),
           ),
         ),
       ),
     )
+
+-- a record's own bytes are 18
+pub own-size : (c : ChipRecord) → length (chipBytes c) ≡ 18
+unfolding chipBytes lowFirst
+own-size c = refl
+
+pub own-questions : (c : ChipRecord) → asked (fieldQuestions (chipBytes c)) ≡ 0 → asked (stateQuestions (chipBytes c)) ≡ 0
+own-questions c e = rw (own-size c) e
 
 -- what restore takes a record's 18 bytes for
 pub chip-back : (c : ChipRecord) → c .eeprom .acc < 2 ^ 64 → chipOf (chipBytes c) ≡ c
@@ -122,14 +127,13 @@ phase-forth n h =
     omega (arith, leb-true n 6 h, eqb-false n 0 e0, eqb-false n 1 e1, eqb-false n 2 e2, eqb-false n 3 e3, eqb-false n 4 e4, eqb-false n 5 e5)))))))
 
 -- bytes that restore accepts are written back unchanged
-pub bytes-back : (b : List ℕ) → areBytes b ≡ true → asked (stateQuestions b) ≡ 0 → chipBytes (chipOf b) ≡ b
-unfolding chipOf chipBytes stateQuestions
-bytes-back b h q =
-    let a = yes-all (stateQuestions b) refl q in
-    let n : length b ≡ 18 = eqb-true (length b) 18 (a .0) in
+pub bytes-back : (b : List ℕ) → areBytes b ≡ true → length b ≡ 18 → asked (fieldQuestions b) ≡ 0 → chipBytes (chipOf b) ≡ b
+unfolding chipOf chipBytes fieldQuestions
+bytes-back b h n q =
+    let a = yes-all (fieldQuestions b) refl q in
     let f1 : Bool = leb (getD b 1 0) 1 in
     let f2 : Bool = leb (getD b 2 0) 1 in
-    let flags = a .1 .1 .1 .0 in
+    let flags = a .1 .1 .0 in
     let l : length (drop 10 b) ≡ 8 = simp length-drop (omega arith) in
     let d10 : drop 10 b ≡ spelled b 0 10 8 = sym (take-all 8 (drop 10 b) (omega arith)) ∙ spells b 0 8 10 (omega arith) in
     let b7 : getD b 7 0 < 256 = byte-lt b 7 h in
@@ -139,7 +143,7 @@ bytes-back b h q =
     rw (
       bit-forth (getD b 2 0) (and-right f1 f2 (and-left (f1 && f2) (leb (getD b 4 0) 1) flags)),
       bit-forth (getD b 4 0) (and-right (f1 && f2) (leb (getD b 4 0) 1) flags),
-      phase-forth (getD b 5 0) (a .1 .0),
+      phase-forth (getD b 5 0) (a .0),
       lo,
       hi,
       c,

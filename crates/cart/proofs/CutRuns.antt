@@ -13,12 +13,11 @@ use borrow.Author.Tests.{le-leb}
 use Rattle.lists.specs.Questions.{asked}
 use Rattle.lists.proofs.Bools.{split}
 use Rattle.lists.proofs.Parts.{front-of}
-use Rattle.memory.specs.Memory.{erased, filled}
-use Rattle.memory.proofs.Memory.{filled-whole, filled-front}
+use Rattle.memory.specs.Memory.{erased, filled, stored}
+use Rattle.memory.proofs.Memory.{length-erased, filled-whole, filled-front}
 use Rattle.kind.specs.declared.SaveType.{SaveType}
 use Rattle.kind.specs.declared.SaveType.the-variants.{None, Sram, Flash64, Flash128, Eeprom512, Eeprom8k}
 use Rattle.kind.specs.Kind.{memorySize, usesEeprom, detectSaveType}
-use Rattle.flash.specs.Flash.{writeByte}
 use Rattle.eeprom.specs.Eeprom.{bitIn}
 use Rattle.eeprom.proofs.Sound as eeprom
 use Rattle.cart.specs.declared.ChipRecord.{ChipRecord}
@@ -26,7 +25,7 @@ use Rattle.cart.specs.ChipState.{chipBytes, chipOf, stateQuestions}
 use Rattle.cart.specs.Record.{State, Outcome, outcome, recordAllowed, fresh, freshCart, fromBytes}
 use Rattle.cart.specs.Calls.{Call, saveWrite, loadSave, saveData, chipState, saveRead, eepromBeginDma, eepromWrite, eepromRead, takeSaveDirty, stateWith, readSave, writeSave, load, eepromFile, fileOf, exported, holds, questions, accepted, step, restore}
 use Rattle.cart.specs.Cut.{fileIn, fileLeft, bytesLeft, reloaded, cut, cuts, Turn, before, run, uncut, CutRuns}
-use Rattle.cart.proofs.ChipState.{chip-allowed, chip-back}
+use Rattle.cart.proofs.ChipState.{chip-allowed, own-questions, chip-back}
 use Rattle.cart.proofs.Sound.{Sound, record-allowed, memory-fits, step-accepted, sound-step, sound-fresh, opened, eeprom-size}
 use Rattle.cart.proofs.Restore.{restoring, restore-accepted}
 use Rattle.cart.proofs.Recoverable.{Recoverable, NoByteWrite, recoverable-step, recoverable-fresh}
@@ -108,12 +107,14 @@ record Back (image : List ℕ) (o : Option (List ℕ)) : Type 0 where
   sound : Sound (reloaded o (fresh image))
 
 back : (image : List ℕ) (o : Option (List ℕ)) → Sound (fresh image) → Back image o
-unfolding fresh freshCart load
+unfolding fresh freshCart load stored
 back image none k = record { chip = fresh image .cart .chip; is = refl; sound = k }
 back image (some f) k =
     record {
       chip = load (fresh image) f .cart .chip;
-      is = load-next f (fresh image) k;
+      is =
+          load-next f (fresh image) k
+          ∙ ap (λ (n : ℕ). stateWith (fresh image) false (load (fresh image) f .cart .chip) (filled n f)) (length-erased (memorySize (detectSaveType image)));
       sound = sound-step (loadSave f) [] (fresh image) k;
     }
 
@@ -144,7 +145,7 @@ cut-quiet image memory s h r =
     ∙ memory-back image (detectSaveType image) s (r .kindIs) r
     in
     ap₂ (λ (l : List ℕ) (t : State). restore l (reloaded (fileLeft s) t) .next) (bytes-left s (record-allowed s k)) (ap (λ (o : Outcome). o .next) (opened image memory h))
-    ∙ restore-next b (reloaded (fileLeft s) (fresh image)) (x .sound) (chip-allowed (s .cart .chip) (k .flashOk) (k .eepromOk))
+    ∙ restore-next b (reloaded (fileLeft s) (fresh image)) (x .sound) (own-questions (s .cart .chip) (chip-allowed (s .cart .chip) (k .flashOk) (k .eepromOk)))
     ∙ ap (restoring b) (x .is)
     ∙ (λ i.
     record {
@@ -168,21 +169,11 @@ file-quiet Eeprom8k s = refl
 
 read-quiet : (kind : SaveType) (s : State) (a : ℕ) → readSave kind (quiet s) a ≡ readSave kind s a
 unfolding readSave
-read-quiet None s a = refl
-read-quiet Sram s a = refl
-read-quiet Flash64 s a = refl
-read-quiet Flash128 s a = refl
-read-quiet Eeprom512 s a = refl
-read-quiet Eeprom8k s a = refl
+read-quiet kind s a = refl
 
 write-quiet : (kind : SaveType) (s : State) (a v : ℕ) → quiet (writeSave kind (quiet s) a v) ≡ quiet (writeSave kind s a v)
-unfolding writeSave writeByte
-write-quiet None s a v = refl
-write-quiet Sram s a v = refl
-write-quiet Flash64 s a v = refl
-write-quiet Flash128 s a v = refl
-write-quiet Eeprom512 s a v = refl
-write-quiet Eeprom8k s a v = refl
+unfolding writeSave
+write-quiet kind s a v = refl
 
 export-quiet : (f : Option (List ℕ)) (d : List ℕ) (s : State) → unflagged (exported f d (quiet s)) ≡ unflagged (exported f d s)
 export-quiet none d s = refl

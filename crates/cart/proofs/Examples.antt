@@ -12,7 +12,8 @@ use Rattle.kind.specs.Kind.{begins, stands, detectSaveType}
 use Rattle.file_sizes.specs.SaveFit.{chipSize, eepromFit, saveFit, keptPart}
 use Rattle.flash.specs.Flash.{stateAllowed}
 use Rattle.eeprom.specs.Eeprom.{widthAllowed, w, readBit, afterRead}
-use Rattle.cart.specs.ChipState.{phaseOf, chipBytes, chipOf, stateQuestions}
+use Rattle.byte_step.specs.ByteStep.{readByte, writeStep}
+use Rattle.cart.specs.ChipState.{phaseOf, chipBytes, chipOf, fieldQuestions}
 use Rattle.cart.specs.Record.{State, recordAllowed, freshCart, fresh, fromBytes}
 use Rattle.cart.specs.Calls.{saveRead, saveWrite, eepromWrite, eepromRead, saveData, chipState, takeSaveDirty, stateWith, readSave, writeSave, load, fileOf, questions, accepted, step, restore, importSave, usesEepromOf, eepromWindowStart}
 use Rattle.cart.specs.Cases.{plain, eeprom, chip, restored}
@@ -40,7 +41,7 @@ record Refusals : Type 0 where
   import14 : importSave (replicate 513 0) eeprom .refusal ≡ 14
 
 refusals : Refusals
-unfolding lowFirst erased imageLength begins stands detectSaveType chipSize eepromFit saveFit keptPart stateAllowed widthAllowed w phaseOf chipBytes chipOf stateQuestions recordAllowed freshCart fresh fromBytes fileOf questions accepted step restore importSave
+unfolding lowFirst erased imageLength begins stands detectSaveType chipSize eepromFit saveFit keptPart stateAllowed widthAllowed w phaseOf chipBytes chipOf fieldQuestions recordAllowed freshCart fresh fromBytes fileOf questions accepted step restore importSave
 refusals =
     record {
       record2 = (refl, refl, refl);
@@ -67,7 +68,7 @@ record Answers : Type 0 where
   window : (eepromWindowStart (freshCart 16777216 None) .value ≡ 0x0d000000) × (eepromWindowStart (freshCart 16777217 None) .value ≡ 0x0dffff00) × (usesEepromOf (plain .cart) .value ≡ 0) × (usesEepromOf (eeprom .cart) .value ≡ 1)
 
 answers : Answers
-unfolding into lowFirst erased stored filled imageLength begins stands detectSaveType chipSize eepromFit saveFit keptPart stateAllowed widthAllowed w readBit afterRead phaseOf chipBytes chipOf stateQuestions recordAllowed freshCart fresh fromBytes readSave writeSave load fileOf questions accepted step restore importSave usesEepromOf eepromWindowStart
+unfolding into lowFirst erased stored filled imageLength begins stands detectSaveType chipSize eepromFit saveFit keptPart stateAllowed widthAllowed w readBit afterRead phaseOf chipBytes chipOf fieldQuestions recordAllowed freshCart fresh fromBytes readByte writeStep readSave writeSave load fileOf questions accepted step restore importSave usesEepromOf eepromWindowStart
 answers =
     record {
       none = (refl, refl, refl);

@@ -18,7 +18,7 @@ use Rattle.flash.specs.Flash.{stateAllowed}
 use Rattle.eeprom.specs.Eeprom.{widthAllowed, w, wOf, countLimit}
 use Rattle.eeprom.proofs.Sound.{limit-64}
 use Rattle.cart.specs.declared.ChipRecord.{ChipRecord}
-use Rattle.cart.specs.ChipState.{chipBytes, stateQuestions}
+use Rattle.cart.specs.ChipState.{chipBytes, fieldQuestions, stateQuestions}
 use Rattle.cart.specs.declared.Cartridge.{Cartridge}
 use Rattle.cart.specs.Record.{chipAllowed, recordAllowed}
 use Rattle.cart.proofs.ChipState.{phase-le, phase-back, bit-le, bit-back}
@@ -55,7 +55,7 @@ pub chip-fields : (c : ChipRecord)
     && (leb (c .flash .bank) 1
     && (widthAllowed (c .eeprom .width)
     && (leb (c .eeprom .block) 1023 && (leb (c .eeprom .place) 67 && ltb (c .eeprom .count) (countLimit (c .eeprom .phase) (wOf (c .eeprom)))))))
-unfolding stateQuestions chipBytes lowFirst
+unfolding fieldQuestions chipBytes lowFirst
 chip-fields c =
     let e = c .eeprom in
     let k : e .block % 256 + 256 * (e .block / 256) ≡ e .block = omega arith in
@@ -105,7 +105,10 @@ allowed-bounds c h =
       placeOk = omega (arith, leb-true (e .place) 67 (and-left p l y5));
     }
 
--- bytes that restore takes are 18
-pub state-18 : (b : List ℕ) → asked (stateQuestions b) ≡ 0 → length b ≡ 18
-unfolding stateQuestions
-state-18 b e = eqb-true (length b) 18 (yes-all (stateQuestions b) refl e .0)
+-- what restore takes: 18 bytes, and their fields allowed
+pub state-size : (b : List ℕ) → asked (stateQuestions b) ≡ 0 → length b ≡ 18
+unfolding fieldQuestions
+state-size b e = eqb-true (length b) 18 (yes-all (stateQuestions b) refl e .0)
+
+pub state-fields : (b : List ℕ) → asked (stateQuestions b) ≡ 0 → asked (fieldQuestions b) ≡ 0
+state-fields b e = sym (rw (state-size b e)) ∙ e

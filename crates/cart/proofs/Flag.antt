@@ -11,30 +11,20 @@ use Rattle.lists.specs.Questions.{Question, asked}
 use Rattle.lists.proofs.Bools.{either}
 use Rattle.memory.specs.Memory.{stores}
 use Rattle.kind.specs.declared.SaveType.{SaveType}
-use Rattle.kind.specs.declared.SaveType.the-variants.{None, Sram, Flash64, Flash128, Eeprom512, Eeprom8k}
-use Rattle.flash.specs.Flash.{flashWrite, writeByte}
+use Rattle.byte_step.specs.ByteStep.{writeStep}
 use Rattle.eeprom.specs.Eeprom.{writeBit, bitIn}
 use Rattle.cart.specs.Record.{State, Outcome, guarded}
 use Rattle.cart.specs.Calls.{Call, saveRead, saveWrite, eepromBeginDma, eepromWrite, eepromRead, loadSave, saveData, chipState, takeSaveDirty}
-use Rattle.cart.specs.Calls.{flashOf, withFlash, writeSave, load, fileOf, exported, questions, accepted, step, restoreQuestions, restore, importQuestions, importSave}
+use Rattle.cart.specs.Calls.{writeSave, load, fileOf, exported, questions, accepted, step, restoreQuestions, restore, importQuestions, importSave}
 use Rattle.cart.specs.Claims.{FlagKept}
 
 or-right : (a b : Bool) → b ≡ true → a || b ≡ true
 or-right true b e = refl
 or-right false b e = e
 
-flash-stays : (s : State) (a v : ℕ) → s .cart .dirty ≡ true → withFlash s (writeByte (flashOf s) a v) .cart .dirty ≡ true
-unfolding writeByte
-flash-stays s a v h = or-right (stores (flashWrite (s .cart .chip .flash) (length (s .memory)) a v .store)) (s .cart .dirty) h
-
 write-stays : (kind : SaveType) (s : State) (a v : ℕ) → s .cart .dirty ≡ true → writeSave kind s a v .cart .dirty ≡ true
 unfolding writeSave
-write-stays None s a v h = h
-write-stays Sram s a v h = refl
-write-stays Flash64 s a v h = flash-stays s a v h
-write-stays Flash128 s a v h = flash-stays s a v h
-write-stays Eeprom512 s a v h = h
-write-stays Eeprom8k s a v h = h
+write-stays kind s a v h = or-right (writeStep kind (s .cart .chip .flash) (length (s .memory)) a v .sets) (s .cart .dirty) h
 
 export-stays : (f : Option (List ℕ)) (d : List ℕ) (s : State) → s .cart .dirty ≡ true → exported f d s .next .cart .dirty ≡ true
 export-stays none d s h = h

@@ -15,6 +15,7 @@ use Rattle.flash.specs.Flash.{flashRead, writeByte}
 use Rattle.flash.specs.Gbatek as flash
 use Rattle.flash.specs.Gbatek.{Write, write, written, program, base, ChipBytes, bytes64K, bytes128K}
 use Rattle.flash.proofs.Commands.{commands}
+use Rattle.byte_step.specs.ByteStep.{readByte, writeStep}
 use Rattle.cart.specs.Record.{State, outcome}
 use Rattle.cart.specs.Calls.{saveRead, saveWrite, flashOf, withFlash, readSave, writeSave, questions, accepted, step}
 use Rattle.cart.specs.Gbatek.{Ran, ran, calls, Reached, bus, FlashPart, panasonic64K, sanyo128K, writes, FlashCommands}
@@ -22,12 +23,12 @@ use Rattle.cart.proofs.Sound.{Sound, record-allowed, memory-fits, step-
 use Rattle.cart.proofs.Runs.{then, nothing, calls-then, reached-sound, reached-on}
 
 write-part : {kind : SaveType} {word : ℕ} → FlashPart kind word → (s : State) (a v : ℕ) → writeSave kind s a v ≡ withFlash s (writeByte (flashOf s) a v)
-unfolding writeSave
+unfolding writeSave writeStep writeByte
 write-part panasonic64K s a v = refl
 write-part sanyo128K s a v = refl
 
 read-part : {kind : SaveType} {word : ℕ} → FlashPart kind word → (s : State) (a : ℕ) → readSave kind s a ≡ flashRead word (s .cart .chip .flash) (s .memory) a
-unfolding readSave
+unfolding readSave readByte
 read-part panasonic64K s a = refl
 read-part sanyo128K s a = refl
 

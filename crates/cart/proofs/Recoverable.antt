@@ -6,7 +6,7 @@
 -- erases it again. A byte write to an EEPROM kind would break this, and demand 3 leaves it out.
 use mathlib.Core.Path.{_≡_, refl, sym, ap, subst, _∙_}
 use mathlib.Core.Bool.{Bool, true, false, _&&_}
-use mathlib.Core.List.{List}
+use mathlib.Core.List.{List, []}
 use mathlib.Core.Option.{Option, none, some}
 use Prim.Native.Nat.{ℕ, _-_, _%_, _<_}
 use native.Mathlib.Omega.{arith}
@@ -15,10 +15,9 @@ use lib.ListN.{length, drop}
 use borrow.Author.Tests.{ltb-false}
 use Rattle.lists.proofs.Bools.{either, or-true}
 use Rattle.lists.proofs.Questions.{AllYes}
-use Rattle.memory.specs.Memory.{erased, stored}
+use Rattle.memory.specs.Memory.{erased, filled, stored}
 use Rattle.memory.proofs.Memory.{drop-erased, drop-filled, drop-block}
 use Rattle.kind.specs.declared.SaveType.{SaveType}
-use Rattle.kind.specs.declared.SaveType.the-variants.{None, Sram, Flash64, Flash128, Eeprom512, Eeprom8k}
 use Rattle.kind.specs.Kind.{memorySize, usesEeprom, detectSaveType}
 use Rattle.eeprom.specs.declared.Eeprom.{Eeprom}
 use Rattle.eeprom.specs.declared.EepromStep.{EepromStep}
@@ -48,12 +47,7 @@ clash p q = absurd (let z : _≡_ {A = ℕ} 0 1 = cc in omega arith)
 kept-write : (kind : SaveType) (s : State) (a v : ℕ)
     → (writeSave kind s a v .cart .len ≡ s .cart .len) × (writeSave kind s a v .cart .kind ≡ s .cart .kind)
 unfolding writeSave
-kept-write None s a v = (refl, refl)
-kept-write Sram s a v = (refl, refl)
-kept-write Flash64 s a v = (refl, refl)
-kept-write Flash128 s a v = (refl, refl)
-kept-write Eeprom512 s a v = (refl, refl)
-kept-write Eeprom8k s a v = (refl, refl)
+kept-write kind s a v = (refl, refl)
 
 -- a chip that is not large behind a DMA announcement or a bit was not large before
 dma-large : (words : ℕ) (e : Eeprom) → beginDma words e .large ≡ false → e .large ≡ false
@@ -74,7 +68,7 @@ way-large (eeprom.word d o) = refl
 
 -- a block of a chip that is not large lies below byte 512
 way-tail : {e : Eeprom} {t : EepromStep} (m : List ℕ) → length m ≡ 8192 → eeprom.Sound e → e .large ≡ false → eeprom.Way e t
-    → drop 512 (stored (t .store) m) ≡ drop 512 m
+    → drop 512 (stored (t .store) [] m) ≡ drop 512 m
 unfolding stored
 way-tail m l k z (eeprom.keeps o) = refl
 way-tail {e} m l k z (eeprom.word d o) =
@@ -99,7 +93,7 @@ NoByteWrite kind c = (a v : ℕ) → saveWrite a v ≡ c → usesEeprom kind ≡
 
 recoverable-accepted : (image : List ℕ) (c : Call) (d : List ℕ) (s : State) → NoByteWrite (detectSaveType image) c → Recoverable image s
     → AllYes (questions c d s) → Recoverable image (accepted c d s .next)
-unfolding accepted questions load
+unfolding accepted questions load stored
 recoverable-accepted image (saveRead a) d s n r y = r
 recoverable-accepted image (saveWrite a v) d s n r y =
     let k = kept-write (s .cart .kind) s a v in
@@ -138,7 +132,8 @@ recoverable-accepted image (loadSave f) d s n r y =
       tail = λ q z.
           let e = s .cart .chip .eeprom in
           let b : Bool = usesEeprom (s .cart .kind) && ltb 512 (length f) in
-          drop-filled (memorySize (s .cart .kind)) 512 f (omega (arith, eeprom-size (s .cart .kind) q))
+          ap (λ (n : ℕ). drop 512 (filled n f)) (r .sound .memoryOk)
+          ∙ drop-filled (memorySize (s .cart .kind)) 512 f (omega (arith, eeprom-size (s .cart .kind) q))
           (ltb-false 512 (length f) (rw q at (or-true (e .large) b z .1)));
     }
 recoverable-accepted image saveData d s n r y = subst (Recoverable image) (sym (exported-next (fileOf (s .cart .kind) s) d s)) r

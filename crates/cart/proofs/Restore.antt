@@ -11,19 +11,20 @@ use Rattle.lists.specs.Questions.{Question, asked, FirstNo}
 use Rattle.lists.proofs.Bools.{split, and-left, and-right}
 use Rattle.lists.proofs.Questions.{numbered, refused-first, all-yes, yes-all}
 use Rattle.image.specs.Image.{imageLength}
-use Rattle.cart.specs.ChipState.{chipBytes, chipOf, stateQuestions}
+use Rattle.cart.specs.ChipState.{chipBytes, chipOf, fieldQuestions, stateQuestions}
 use Rattle.cart.specs.Record.{State, Outcome, outcome, recordAllowed}
 use Rattle.cart.specs.Calls.{chipState, stateWith, restoreQuestions, questions, accepted, step, restore}
 use Rattle.cart.specs.Claims.{StateBytes}
-use Rattle.cart.proofs.ChipState.{chip-back, bytes-back}
+use Rattle.cart.proofs.ChipState.{own-questions, chip-back, bytes-back}
+use Rattle.cart.proofs.Fields.{state-size, state-fields}
 use Rattle.cart.proofs.Sound.{step-accepted}
 
 -- an allowed record's own questions
 own-yes : (s : State) → recordAllowed (s .cart) ≡ true → asked (stateQuestions (chipBytes (s .cart .chip))) ≡ 0
 unfolding recordAllowed
 own-yes s h =
-    let n : ℕ = asked (stateQuestions (chipBytes (s .cart .chip))) in
-    eqb-true n 0 (and-right (imageLength (s .cart .len)) (eqb n 0) h)
+    let n : ℕ = asked (fieldQuestions (chipBytes (s .cart .chip))) in
+    own-questions (s .cart .chip) (eqb-true n 0 (and-right (imageLength (s .cart .len)) (eqb n 0) h))
 
 bytes-given : (s : State) → recordAllowed (s .cart) ≡ true → step chipState [] s .given ≡ chipBytes (s .cart .chip)
 unfolding questions accepted
@@ -50,20 +51,20 @@ restores s h a =
     ∙ ap (λ c. outcome [] (stateWith s (s .cart .dirty) c (s .memory)) []) (chip-back (s .cart .chip) a)
 
 numbers : (b : List ℕ) (s : State) → numbered (restoreQuestions b s) ≡ true
-unfolding stateQuestions
+unfolding fieldQuestions
 numbers b s = refl
 
 restored-allowed : (b : List ℕ) (s : State) → areBytes b ≡ true → recordAllowed (s .cart) ≡ true → asked (stateQuestions b) ≡ 0 → recordAllowed (restoring b s .cart) ≡ true
 unfolding recordAllowed
 restored-allowed b s a h e =
-    rw (bytes-back b a e, e, and-left (imageLength (s .cart .len)) (eqb (asked (stateQuestions (chipBytes (s .cart .chip)))) 0) h)
+    rw (bytes-back b a (state-size b e) (state-fields b e), state-fields b e, and-left (imageLength (s .cart .len)) (eqb (asked (fieldQuestions (chipBytes (s .cart .chip)))) 0) h)
 
 writes-back : (b : List ℕ) (s : State) → areBytes b ≡ true → restore b s .refusal ≡ 0 → step chipState [] (restore b s .next) .given ≡ b
 writes-back b s a h =
     let y = yes-all (restoreQuestions b s) (numbers b s) (restore-yes b s h) in
     let e : asked (stateQuestions b) ≡ 0 = all-yes (stateQuestions b) (y .1) in
     ap (λ (o : Outcome). step chipState [] (o .next) .given) (restore-accepted b s (restore-yes b s h))
-    ∙ (bytes-given (restoring b s) (restored-allowed b s a (y .0) e) ∙ bytes-back b a e)
+    ∙ (bytes-given (restoring b s) (restored-allowed b s a (y .0) e) ∙ bytes-back b a (state-size b e) (state-fields b e))
 
 refuses : (b : List ℕ) (s : State) → restore b s .refusal ≢ 0 → FirstNo (restoreQuestions b s) (restore b s .refusal) × (restore b s .next ≡ s)
 unfolding restore

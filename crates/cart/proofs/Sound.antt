@@ -7,12 +7,11 @@ use Prim.Native.Nat.{ℕ, _*_, _%_, _<_}
 use native.Mathlib.Nat.{mod-lt}
 use native.Mathlib.Omega.{arith}
 use lib.Dec.{eqb}
-use lib.ListN.{length, length-set}
+use lib.ListN.{length, set, length-set}
 use borrow.Author.Tests.{eqb-true, eq-eqb}
 use Rattle.lists.specs.Questions.{asked}
 use Rattle.lists.proofs.Bools.{split}
 use Rattle.lists.proofs.Questions.{AllYes, numbered, all-yes, yes-all}
-use Rattle.memory.specs.declared.Store.the-variants.{Byte}
 use Rattle.memory.specs.Memory.{stored, erased}
 use Rattle.memory.proofs.Memory.{length-erased, length-block, length-sector, length-filled}
 use Rattle.image.specs.Image.{imageLength}
@@ -23,6 +22,7 @@ use Rattle.flash.specs.declared.Flash.{Flash}
 use Rattle.flash.specs.Flash.{place, writeByte, stateAllowed}
 use Rattle.flash.specs.declared.FlashStep.{FlashStep}
 use Rattle.flash.proofs.Sound as flash
+use Rattle.byte_step.specs.ByteStep.{writeStep}
 use Rattle.eeprom.specs.declared.Eeprom.{Eeprom}
 use Rattle.eeprom.specs.Eeprom.{dmaQuestion, bitIn}
 use Rattle.eeprom.specs.declared.EepromStep.{EepromStep}
@@ -56,7 +56,7 @@ eeprom-size Eeprom8k e = refl
 
 -- a step that stores keeps the memory's length: of a flash chip of n sectors, of an EEPROM
 flash-length : {f : Flash} {p v : ℕ} {t : FlashStep} (m : List ℕ) (n : ℕ) → length m ≡ n * 4096 → p < length m
-    → flash.Way f p v t → length (stored (t .store) m) ≡ length m
+    → flash.Way f p v t → length (stored (t .store) [] m) ≡ length m
 unfolding stored
 flash-length m n e h (flash.state s a) = refl
 flash-length m n e h (flash.id on) = refl
@@ -82,13 +82,12 @@ sound-flash s a v n e h k =
       eepromOk = k .eepromOk;
     }
 
-sound-byte : (s : State) (dirty : Bool) (p v : ℕ) → Sound s → Sound (stateWith s dirty (s .cart .chip) (stored (Byte p v) (s .memory)))
-unfolding stored
+sound-byte : (s : State) (dirty : Bool) (p v : ℕ) → Sound s → Sound (stateWith s dirty (s .cart .chip) (set (s .memory) p v))
 sound-byte s dirty p v k =
     record { lenOk = k .lenOk; memoryOk = length-set (s .memory) p v ∙ k .memoryOk; flashOk = k .flashOk; eepromOk = k .eepromOk }
 
 sound-write : (kind : SaveType) (s : State) (a v : ℕ) → s .cart .kind ≡ kind → Sound s → Sound (writeSave kind s a v)
-unfolding writeSave
+unfolding writeSave writeStep writeByte stored
 sound-write None s a v e k = k
 sound-write Sram s a v e k = sound-byte s true (a % 32768) v k
 sound-write Flash64 s a v e k = sound-flash s a v 16 (ap memorySize e) (omega arith) k
@@ -97,7 +96,7 @@ sound-write Eeprom512 s a v e k = sound-byte s (s .cart .dirty) (a % 8192) v k
 sound-write Eeprom8k s a v e k = sound-byte s (s .cart .dirty) (a % 8192) v k
 
 eeprom-length : {e : Eeprom} {t : EepromStep} (m : List ℕ) → length m ≡ 8192 → eeprom.Sound e
-    → eeprom.Way e t → length (stored (t .store) m) ≡ length m
+    → eeprom.Way e t → length (stored (t .store) [] m) ≡ length m
 unfolding stored
 eeprom-length m l k (eeprom.keeps o) = refl
 eeprom-length {e} m l k (eeprom.word d o) =
@@ -124,7 +123,7 @@ sound-exported none d s k = k
 sound-exported (some f) d s k = k
 
 pub sound-accepted : (c : Call) (d : List ℕ) (s : State) → AllYes (questions c d s) → Sound s → Sound (accepted c d s .next)
-unfolding accepted questions load
+unfolding accepted questions load stored
 sound-accepted (saveRead a) d s y k = k
 sound-accepted (saveWrite a v) d s y k = sound-write (s .cart .kind) s a v refl k
 sound-accepted (eepromBeginDma words) d s y k =
@@ -134,7 +133,7 @@ sound-accepted eepromRead d s y k = sound-eeprom s _ k (eeprom.sound-read (s .ca
 sound-accepted (loadSave f) d s y k =
     record {
       lenOk = k .lenOk;
-      memoryOk = length-filled (memorySize (s .cart .kind)) f;
+      memoryOk = length-filled (length (s .memory)) f ∙ k .memoryOk;
       flashOk = k .flashOk;
       eepromOk = eeprom.sound-load (s .cart .chip .eeprom) _ (k .eepromOk);
     }

@@ -9,6 +9,7 @@ use Rattle.lists.proofs.Parts.{set-at}
 use Rattle.memory.specs.Memory.{stored}
 use Rattle.kind.specs.declared.SaveType.the-variants.{Sram}
 use Rattle.kind.specs.Kind.{memorySize}
+use Rattle.byte_step.specs.ByteStep.{readByte, writeStep}
 use Rattle.cart.specs.Record.{State, outcome}
 use Rattle.cart.specs.Calls.{saveRead, saveWrite, stateWith, readSave, writeSave, questions, accepted, step}
 use Rattle.cart.specs.Gbatek.{Reached, ran, bus, SramBytes}
@@ -17,13 +18,13 @@ use Rattle.cart.proofs.Runs.{then, nothing, reached-sound}
 
 module _ (s : State) (k : Sound s) (e : s .cart .kind ≡ Sram) where
   write-byte : (a v : ℕ) → a < 32768 → step (saveWrite (bus a) v) [] s ≡ outcome [] (stateWith s true (s .cart .chip) (set (s .memory) a v)) []
-  unfolding questions accepted writeSave stored
+  unfolding questions accepted writeSave writeStep stored
   write-byte a v h =
       let p : bus a % 32768 ≡ a = omega arith in
       step-accepted (saveWrite (bus a) v) [] s (record-allowed s k, (memory-fits s k, tt)) ∙ rw (e, p)
 
   read-byte : (c : ℕ) → c < 32768 → step (saveRead (bus c)) [] s ≡ outcome (getD (s .memory) c 0 ∷ []) s []
-  unfolding questions accepted readSave
+  unfolding questions accepted readSave readByte
   read-byte c h =
       let p : bus c % 32768 ≡ c = omega arith in
       step-accepted (saveRead (bus c)) [] s (record-allowed s k, (memory-fits s k, tt)) ∙ rw (e, p)

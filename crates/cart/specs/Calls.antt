@@ -2,27 +2,27 @@
 use mathlib.Core.Bool.{Bool, true, false, cond, _&&_, _||_}
 use mathlib.Core.List.{List, [], _∷_}
 use mathlib.Core.Option.{Option, none, some}
-use Prim.Native.Nat.{ℕ, _%_}
+use Prim.Native.Nat.{ℕ}
 use lib.Dec.{ltb, leb}
-use lib.ListN.{length, getD, take}
+use lib.ListN.{length, take}
 use Rattle.lists.specs.Lists.{into}
 use Rattle.lists.specs.Questions.{Question, _else_}
-use Rattle.memory.specs.declared.Store.the-variants.{Byte}
-use Rattle.memory.specs.Memory.{Held, stored, filled}
+use Rattle.memory.specs.declared.Store.the-variants.{File}
+use Rattle.memory.specs.Memory.{Held, changed}
 use Rattle.image.specs.declared.Answer.{Answer}
 use Rattle.image.specs.Image.{answered}
 use Rattle.kind.specs.declared.SaveType.{SaveType}
 use Rattle.kind.specs.declared.SaveType.the-variants.{None, Sram, Flash64, Flash128, Eeprom512, Eeprom8k}
-use Rattle.kind.specs.Kind.{memorySize, usesEeprom, windowStart}
+use Rattle.kind.specs.Kind.{usesEeprom, windowStart}
 use Rattle.file_sizes.specs.SaveFit.{saveFit, taken, keptPart}
 use Rattle.flash.specs.declared.Flash.{Flash}
-use Rattle.flash.specs.Flash.{flashRead, writeByte}
+use Rattle.byte_step.specs.ByteStep.{readByte, afterWrite}
 use Rattle.eeprom.specs.declared.Eeprom.{Eeprom}
 use Rattle.eeprom.specs.Eeprom.{told, beginDma, dmaQuestion, bitIn, readBit, afterRead}
 use Rattle.cart.specs.declared.ChipRecord.{ChipRecord}
 use Rattle.cart.specs.declared.Cartridge.{Cartridge}
 use Rattle.cart.specs.ChipState.{bit, chipBytes, chipOf, stateQuestions}
-use Rattle.cart.specs.Record.{State, Outcome, guarded, outcome, recordQuestion, memoryQuestion}
+use Rattle.cart.specs.Record.{State, Outcome, guarded, outcome, outcomeOf, recordQuestion, memoryQuestion}
 
 -- "nine calls: byte read, byte write, DMA, bit in, bit out, load, export, `chip_state`, `take_save_dirty`"
 pub data Call : Type 0 where
@@ -57,34 +57,21 @@ withEeprom s x = stateWith s (x .dirty) (record { flash = s .cart .chip .flash; 
 abbrev pub withChip : State → Eeprom → State
 withChip s e = withEeprom s (record { chip = e; memory = s .memory; dirty = s .cart .dirty })
 
--- Bytes (`save_read`): "Sram: address mod 32,768 .. None: reads FFh .. EEPROM kinds: address mod 8,192"
+-- Bytes (`save_read`, `save_write`), by the kind
 unfoldable pub readSave : SaveType → State → ℕ → ℕ
-readSave None s a = 0xff
-readSave Sram s a = getD (s .memory) (a % 32768) 0
-readSave Flash64 s a = flashRead 0x1b32 (s .cart .chip .flash) (s .memory) a
-readSave Flash128 s a = flashRead 0x1362 (s .cart .chip .flash) (s .memory) a
-readSave Eeprom512 s a = getD (s .memory) (a % 8192) 0
-readSave Eeprom8k s a = getD (s .memory) (a % 8192) 0
+readSave kind s a = readByte kind (s .cart .chip .flash) (s .memory) a
 
--- (`save_write`): "a write sets the flag. None: .. writes nothing. EEPROM kinds: .. flag not set."
 unfoldable pub writeSave : SaveType → State → ℕ → ℕ → State
-writeSave None s a v = s
-writeSave Sram s a v = stateWith s true (s .cart .chip) (stored (Byte (a % 32768) v) (s .memory))
-writeSave Flash64 s a v = withFlash s (writeByte (flashOf s) a v)
-writeSave Flash128 s a v = withFlash s (writeByte (flashOf s) a v)
-writeSave Eeprom512 s a v = stateWith s (s .cart .dirty) (s .cart .chip) (stored (Byte (a % 8192) v) (s .memory))
-writeSave Eeprom8k s a v = stateWith s (s .cart .dirty) (s .cart .chip) (stored (Byte (a % 8192) v) (s .memory))
+writeSave kind s a v = withFlash s (afterWrite kind (flashOf s) a v)
 
 -- Files (`load_save`): "memory FFh, then the file's first bytes; longer than 512 on EEPROM sets large; None ignores it. The flag stays."
+abbrev pub largeAfter : SaveType → Bool → List ℕ → Bool
+largeAfter kind large f = large || usesEeprom kind && ltb 512 (length f)
+
 unfoldable pub load : State → List ℕ → State
 load s f =
     let e = s .cart .chip .eeprom in
-    withEeprom s
-    (record {
-      chip = told (e .width) (e .large || usesEeprom (s .cart .kind) && ltb 512 (length f)) e;
-      memory = filled (memorySize (s .cart .kind)) f;
-      dirty = s .cart .dirty;
-    })
+    withEeprom s (changed (told (e .width) (largeAfter (s .cart .kind) (e .large) f) e) File f false (eepromOf s))
 
 -- (`save_data`): "the memory; EEPROM kinds the first 512 bytes unless large; None answers no file"
 abbrev pub eepromFile : State → List ℕ
@@ -139,7 +126,7 @@ accepted (loadSave f) d s = outcome [] (load s f) d
 accepted saveData d s = exported (fileOf (s .cart .kind) s) d s
 accepted chipState d s = outcome (chipBytes (s .cart .chip)) s d
 accepted takeSaveDirty d s =
-    record { refusal = 0; given = []; flag = s .cart .dirty; next = stateWith s false (s .cart .chip) (s .memory); destination = d }
+    outcomeOf 0 [] (s .cart .dirty) (stateWith s false (s .cart .chip) (s .memory)) d
 
 unfoldable pub step : Call → List ℕ → State → Outcome
 step c d s = guarded (questions c d s) d s (accepted c d s)

@@ -49,14 +49,21 @@ chipOf b =
           };
     }
 
--- 6: "18 bytes? No: 6. Phase allowed? 7. Flash state? 8. Bytes 1, 2, 4? 9. Width? 10. Count at most 64, block and read place allowed? 11. Count allowed for its phase? 12."
-unfoldable pub stateQuestions : List ℕ → List Question
-stateQuestions b =
-    eqb (length b) 18 else 6
-    ∷ leb (getD b 5 0) 6 else 7
+-- 6: "Phase allowed? 7. Flash state? 8. Bytes 1, 2, 4? 9. Width? 10. Count at most 64, block and read place allowed? 11. Count allowed
+-- for its phase? 12.": the fields, whose bytes question 2 asks about as well
+unfoldable pub fieldQuestions : List ℕ → List Question
+fieldQuestions b =
+    leb (getD b 5 0) 6 else 7
     ∷ stateAllowed (getD b 0 0) else 8
     ∷ (leb (getD b 1 0) 1 && leb (getD b 2 0) 1 && leb (getD b 4 0) 1) else 9
     ∷ widthAllowed (getD b 3 0) else 10
     ∷ (leb (getD b 6 0) 64 && leb (getD b 7 0 + 256 * getD b 8 0) 1023 && leb (getD b 9 0) 67) else 11
     ∷ ltb (getD b 6 0) (countLimit (phaseOf (getD b 5 0)) (w (getD b 3 0) (eqb (getD b 4 0) 1))) else 12
     ∷ []
+
+-- "18 bytes? No: 6.", which only restore asks
+abbrev pub stateSize : ℕ
+stateSize = 18
+
+abbrev pub stateQuestions : List ℕ → List Question
+stateQuestions b = eqb (length b) stateSize else 6 ∷ fieldQuestions b

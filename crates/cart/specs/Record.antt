@@ -13,7 +13,7 @@ use Rattle.kind.specs.Kind.{byKind, memorySize, detectSaveType}
 use Rattle.eeprom.specs.declared.EepromPhase.the-variants.{Opcode}
 use Rattle.cart.specs.declared.ChipRecord.{ChipRecord}
 use Rattle.cart.specs.declared.Cartridge.{Cartridge}
-use Rattle.cart.specs.ChipState.{chipBytes, stateQuestions}
+use Rattle.cart.specs.ChipState.{chipBytes, fieldQuestions}
 
 -- a cartridge record with the memory that is lent beside it
 pub record State : Type 0 where
@@ -29,16 +29,23 @@ pub record Outcome : Type 0 where
   pub next : State
   pub destination : List ℕ
 
--- "A no returns the number, the record as given, all buffers unchanged"
-abbrev pub guarded : List Question → List ℕ → State → Outcome → Outcome
-guarded qs d s o = cond (eqb (asked qs) 0) o (record { refusal = asked qs; given = []; flag = false; next = s; destination = d })
+-- every outcome is made here
+abbrev pub outcomeOf : ℕ → List ℕ → Bool → State → List ℕ → Outcome
+outcomeOf refusal given flag s d = record { refusal = refusal; given = given; flag = flag; next = s; destination = d }
 
 abbrev pub outcome : List ℕ → State → List ℕ → Outcome
-outcome given s d = record { refusal = 0; given = given; flag = false; next = s; destination = d }
+outcome given s d = outcomeOf 0 given false s d
 
--- 2: "Is the record's image length in that range and each chip field allowed?": the 18 bytes are such as restore takes
+-- "A no returns the number, the record as given, all buffers unchanged"
+abbrev pub refused : ℕ → State → List ℕ → Outcome
+refused number s d = outcomeOf number [] false s d
+
+abbrev pub guarded : List Question → List ℕ → State → Outcome → Outcome
+guarded qs d s o = cond (eqb (asked qs) 0) o (refused (asked qs) s d)
+
+-- 2: "Is the record's image length in that range and each chip field allowed?": the fields are such as restore takes
 abbrev pub chipAllowed : ChipRecord → Bool
-chipAllowed chip = eqb (asked (stateQuestions (chipBytes chip))) 0
+chipAllowed chip = eqb (asked (fieldQuestions (chipBytes chip))) 0
 
 unfoldable pub recordAllowed : Cartridge → Bool
 recordAllowed c = imageLength (c .len) && chipAllowed (c .chip)

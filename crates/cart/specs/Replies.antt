@@ -20,11 +20,15 @@ chipRecord flash eeprom = record { flash = flash; eeprom = eeprom }
 abbrev pub cartWith : Cartridge → Bool → ChipRecord → Cartridge
 cartWith c dirty chip = record { len = c .len; kind = c .kind; dirty = dirty; chip = chip }
 
+-- every reply is made here
+abbrev pub reply : ℕ → ℕ → Cartridge → Reply
+reply refusal value cart = record { refusal = refusal; value = value; cart = cart }
+
 abbrev pub done : ℕ → Cartridge → Reply
-done value cart = record { refusal = 0; value = value; cart = cart }
+done value cart = reply 0 value cart
 
 abbrev pub refused : ℕ → Cartridge → Reply
-refused number cart = record { refusal = number; value = 0; cart = cart }
+refused number cart = reply number 0 cart
 
 -- the number that a call answers; 0 stands for none
 abbrev pub first : List ℕ → ℕ
@@ -32,7 +36,7 @@ first [] = 0
 first (n ∷ l) = n
 
 abbrev pub replyOf : Outcome → Reply
-replyOf o = record { refusal = o .refusal; value = first (o .given); cart = o .next .cart }
+replyOf o = reply (o .refusal) (first (o .given)) (o .next .cart)
 
 -- with the memory, and with the destination that the call was lent
 abbrev pub replied : Outcome → Reply × List ℕ
@@ -43,4 +47,4 @@ exportReplied o = (replyOf o, o .destination)
 
 -- of `take_save_dirty`
 abbrev pub flagReplied : Outcome → Reply × List ℕ
-flagReplied o = (record { refusal = o .refusal; value = bit (o .flag); cart = o .next .cart }, o .next .memory)
+flagReplied o = (reply (o .refusal) (bit (o .flag)) (o .next .cart), o .next .memory)

@@ -1,5 +1,6 @@
 // The cartridge: its records, their 18 bytes, the questions at the door, and in specs/ the machine of document 01.
 
+mod layout;
 mod questions;
 mod state_bytes;
 
@@ -7,16 +8,29 @@ use eeprom::Eeprom;
 use eeprom::EepromPhase;
 use flash::Flash;
 use kind::SaveType;
+pub use layout::ACC;
+pub use layout::BANK;
+pub use layout::BLOCK;
+pub use layout::COUNT;
+pub use layout::FLASH_STATE;
+pub use layout::ID_MODE;
+pub use layout::LARGE;
+pub use layout::PHASE;
+pub use layout::PLACE;
+pub use layout::STATE_SIZE;
+pub use layout::StateBytes;
+pub use layout::WIDTH;
 pub use questions::door;
 pub use questions::record_allowed;
 pub use state_bytes::chip_bytes;
 pub use state_bytes::chip_of;
+pub use state_bytes::field_questions;
 pub use state_bytes::phase_number;
 pub use state_bytes::state_questions;
 ghost use mathlib.Core.Path.{_≡_};
 ghost use Rattle.cart.specs.ChipState.{bit as bit·spec};
 ghost use Rattle.cart.specs.Record.{freshChip, isLarge, freshCart};
-ghost use Rattle.cart.specs.Replies.{done as done·spec, refused, chipRecord, cartWith};
+ghost use Rattle.cart.specs.Replies.{reply, done as done·spec, refused, chipRecord, cartWith};
 
 // The 18 bytes of `chip_state`.
 pub struct ChipRecord {
@@ -46,25 +60,28 @@ pub fn bit(b: bool) -> u8
     if b { 1 } else { 0 }
 }
 
-pub fn done(value: u32, cart: Cartridge) -> Reply
-    ensures { λ r. ⌜ r ≡ done·spec value cart ⌝ }
+// Every reply is made here.
+fn reply_with(refusal: u8, value: u32, cart: Cartridge) -> Reply
+    ensures { λ r. ⌜ r ≡ reply refusal value cart ⌝ }
 {
     Reply {
-        refusal: 0,
+        refusal: refusal,
         value: value,
         cart: cart,
     }
+}
+
+pub fn done(value: u32, cart: Cartridge) -> Reply
+    ensures { λ r. ⌜ r ≡ done·spec value cart ⌝ }
+{
+    reply_with(0, value, cart)
 }
 
 // The record as given.
 pub fn refuse(number: u8, cart: Cartridge) -> Reply
     ensures { λ r. ⌜ r ≡ refused number cart ⌝ }
 {
-    Reply {
-        refusal: number,
-        value: 0,
-        cart: cart,
-    }
+    reply_with(number, 0, cart)
 }
 
 pub fn cart_with(cart: Cartridge, dirty: bool, chip: ChipRecord) -> Cartridge

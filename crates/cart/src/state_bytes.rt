@@ -1,6 +1,18 @@
-// The chip record as 18 bytes.
+// The chip record as bytes.
 use crate::ChipRecord;
 use crate::bit;
+use crate::layout::ACC;
+use crate::layout::BANK;
+use crate::layout::BLOCK;
+use crate::layout::COUNT;
+use crate::layout::FLASH_STATE;
+use crate::layout::ID_MODE;
+use crate::layout::LARGE;
+use crate::layout::PHASE;
+use crate::layout::PLACE;
+use crate::layout::STATE_SIZE;
+use crate::layout::StateBytes;
+use crate::layout::WIDTH;
 use eeprom::Eeprom;
 use eeprom::EepromPhase;
 use eeprom::count_limit;
@@ -17,7 +29,7 @@ ghost use lib.Dec.{leb};
 ghost use lib.ListN.{length, drop};
 ghost use Rattle.lists.specs.Lists.{lowValue};
 ghost use Rattle.lists.specs.Questions.{asked};
-ghost use Rattle.cart.specs.ChipState.{phaseNumber, phaseOf, chipBytes, chipOf, stateQuestions};
+ghost use Rattle.cart.specs.ChipState.{phaseNumber, phaseOf, chipBytes, chipOf, fieldQuestions, stateQuestions};
 
 pub fn phase_number(phase: EepromPhase) -> u8
     ensures { λ r. ⌜ r ≡ phaseNumber phase ⌝ }
@@ -47,7 +59,7 @@ fn phase_of(n: u8) -> EepromPhase
     }
 }
 
-pub fn chip_bytes(chip: ChipRecord) -> [u8; 18]
+pub fn chip_bytes(chip: ChipRecord) -> StateBytes
     ensures { λ r. ⌜ r ≡ chipBytes chip ⌝ }
 {
     let flash = chip.flash;
@@ -81,55 +93,55 @@ fn acc_of(b: &[u8]) -> u64
     ensures { λ r. ⌜ r ≡ lowValue (drop 10 (now (b .entry))) ⌝ }
 {
     low64(
-        low32(b[10], b[11], b[12], b[13]),
-        low32(b[14], b[15], b[16], b[17]),
+        low32(b[ACC], b[ACC + 1], b[ACC + 2], b[ACC + 3]),
+        low32(b[ACC + 4], b[ACC + 5], b[ACC + 6], b[ACC + 7]),
     )
 }
 
-// What 18 bytes say, their questions answered yes.
+// Decodes the bytes of a valid chip record.
 pub fn chip_of(b: &[u8]) -> ChipRecord
     requires { ⌜ length (now b) ≡ 18 ⌝ }
     ensures { λ r. ⌜ r ≡ chipOf (now (b .entry)) ⌝ }
 {
     ChipRecord {
         flash: Flash {
-            state: b[0],
-            bank: b[1],
-            id: b[2] == 1,
+            state: b[FLASH_STATE],
+            bank: b[BANK],
+            id: b[ID_MODE] == 1,
         },
         eeprom: Eeprom {
-            width: b[3],
-            large: b[4] == 1,
-            phase: phase_of(b[5]),
-            count: b[6],
-            block: low16(b[7], b[8]),
-            place: b[9],
+            width: b[WIDTH],
+            large: b[LARGE] == 1,
+            phase: phase_of(b[PHASE]),
+            count: b[COUNT],
+            block: low16(b[BLOCK], b[BLOCK + 1]),
+            place: b[PLACE],
             acc: acc_of(b),
         },
     }
 }
 
-// Questions 7 to 12 of 18 bytes: the first number that applies, or 0.
-fn byte_questions(b: &[u8]) -> u8
+// Questions 7 to 12, about the fields: the first number that applies, or 0.
+pub fn field_questions(b: &[u8]) -> u8
     requires { ⌜ length (now b) ≡ 18 ⌝ }
-    ensures { λ r. ⌜ r ≡ asked (stateQuestions (now (b .entry))) ⌝ }
+    ensures { λ r. ⌜ r ≡ asked (fieldQuestions (now (b .entry))) ⌝ }
 {
-    if 6 < b[5] {
+    if 6 < b[PHASE] {
         return 7;
     }
-    if !state_allowed(b[0]) {
+    if !state_allowed(b[FLASH_STATE]) {
         return 8;
     }
-    if !flags_allowed(b[1], b[2], b[4]) {
+    if !flags_allowed(b[BANK], b[ID_MODE], b[LARGE]) {
         return 9;
     }
-    if !width_allowed(b[3]) {
+    if !width_allowed(b[WIDTH]) {
         return 10;
     }
-    if !places_allowed(b[6], low16(b[7], b[8]), b[9]) {
+    if !places_allowed(b[COUNT], low16(b[BLOCK], b[BLOCK + 1]), b[PLACE]) {
         return 11;
     }
-    if b[6] < count_limit(phase_of(b[5]), w(b[3], b[4] == 1)) {
+    if b[COUNT] < count_limit(phase_of(b[PHASE]), w(b[WIDTH], b[LARGE] == 1)) {
         return 0;
     }
     12
@@ -159,12 +171,12 @@ fn places_allowed(count: u8, block: u16, place: u8) -> bool
     place <= 67
 }
 
-// Question 6: the first number that applies to a file's bytes, or 0.
+// Question 6, the length first: the first number that applies to a file's bytes, or 0.
 pub fn state_questions(b: &[u8]) -> u8
     ensures { λ r. ⌜ r ≡ asked (stateQuestions (now (b .entry))) ⌝ }
 {
-    if b.len() != 18 {
+    if b.len() != STATE_SIZE {
         return 6;
     }
-    byte_questions(b)
+    field_questions(b)
 }

@@ -4,7 +4,7 @@ use Prim.Native.Nat.{_<_}
 use native.Mathlib.Omega.{arith}
 use Rattle.kind.specs.declared.SaveType.{SaveType}
 use Rattle.kind.specs.Kind.{memorySize}
-use Rattle.byte_step.specs.ByteStep.{writeByte}
+use Rattle.byte_step.specs.ByteStep.{writeStep}
 use Rattle.kind.proofs.Groups.{flash-kinds, eeprom-kinds}
 use borrow.Author.Needs.{needs}
 use Rattle.byte_step.proofs.write_byte.Statement.{statement}
@@ -16,30 +16,30 @@ flash-step-requires c κs =
     flash-kinds (λ (k : SaveType). a .n ≡ memorySize k → 0 < a .n) (a .kind) (c .match .keys3) (λ e. omega (arith, e)) (λ e. omega (arith, e)) (c .before .pre)
 
 returns : tie.Need-returns
-unfolding writeByte
+unfolding writeStep
 returns c =
     let a = c .before .before .before .args in
-    c .step-to .ensures ∙ ap (λ (k : SaveType). writeByte k (a .flash) (a .n) (a .address) (a .value)) (sym (c .before .enum-told .given .1))
+    c .step-to .ensures ∙ ap (λ (k : SaveType). writeStep k (a .flash) (a .n) (a .address) (a .value)) (sym (c .before .enum-told .given .1))
 
 returns-2 : tie.Need-returns-2
-unfolding writeByte
+unfolding writeStep
 returns-2 c =
     let a = c .before .before .before .args in
-    c .step-to2 .ensures ∙ ap (λ (k : SaveType). writeByte k (a .flash) (a .n) (a .address) (a .value)) (sym (c .before .enum-told2 .given .1))
+    c .step-to2 .ensures ∙ ap (λ (k : SaveType). writeStep k (a .flash) (a .n) (a .address) (a .value)) (sym (c .before .enum-told2 .given .1))
 
 returns-3 : tie.Need-returns-3
-unfolding writeByte
+unfolding writeStep
 returns-3 c =
     let a = c .before .before .args in
     let e = c .flash-step .ensures in
-    flash-kinds (λ (k : SaveType). c .flash-step .result ≡ writeByte k (a .flash) (a .n) (a .address) (a .value)) (a .kind) (c .before .match .keys3) e e
+    flash-kinds (λ (k : SaveType). c .flash-step .result ≡ writeStep k (a .flash) (a .n) (a .address) (a .value)) (a .kind) (c .before .match .keys3) e e
 
 returns-4 : tie.Need-returns-4
-unfolding writeByte
+unfolding writeStep
 returns-4 c =
     let a = c .before .before .args in
     let e = c .step-to3 .ensures in
-    eeprom-kinds (λ (k : SaveType). c .step-to3 .result ≡ writeByte k (a .flash) (a .n) (a .address) (a .value)) (a .kind) (c .before .match .keys4) e e
+    eeprom-kinds (λ (k : SaveType). c .step-to3 .result ≡ writeStep k (a .flash) (a .n) (a .address) (a .value)) (a .kind) (c .before .match .keys4) e e
 
 pub write-byte-spec : {M : Type 1} → statement M
 write-byte-spec =

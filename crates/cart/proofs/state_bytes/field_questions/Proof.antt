@@ -1,53 +1,47 @@
--- `cart::state_bytes::byte_questions` meets its contract, question by question. Assumes nothing.
+-- `cart::state_bytes::field_questions` meets its contract, question by question. Assumes nothing.
 use mathlib.Core.Path.{ap, ap₂, subst, _∙_}
 use mathlib.Core.Bool.{_&&_}
 use Prim.Native.Nat.{ℕ, _<_, _≤_}
 use lib.Dec.{leb}
-use lib.ListN.{length, getD}
-use borrow.Author.Tests.{eq-eqb, le-leb, lt-leb, lt-ltb, le-ltb}
+use lib.ListN.{getD}
+use borrow.Author.Tests.{le-leb, lt-leb, lt-ltb, le-ltb}
 use Rattle.lists.proofs.Bools.{denied, granted}
 use Rattle.eeprom.specs.Eeprom.{countLimit}
-use Rattle.cart.specs.ChipState.{stateQuestions}
+use Rattle.cart.specs.ChipState.{fieldQuestions}
 use borrow.Author.Needs.{needs}
-use Rattle.cart.proofs.state_bytes.byte_questions.Statement.{statement}
-use Rattle.cart.proofs.state_bytes.byte_questions.Tie as tie
+use Rattle.cart.proofs.state_bytes.field_questions.Statement.{statement}
+use Rattle.cart.proofs.state_bytes.field_questions.Tie as tie
 
 returns : tie.Need-returns
-unfolding stateQuestions
+unfolding fieldQuestions
 returns c =
     let b = c .before .before .before .args .b .now in
-    rw (
-      eq-eqb (length b) 18 (c .before .before .before .pre),
-      lt-leb (getD b 5 0) 6 (c .if1 .taken),
-    )
+    rw (lt-leb (getD b 5 0) 6 (c .if1 .taken))
 
 returns-2 : tie.Need-returns-2
-unfolding stateQuestions
+unfolding fieldQuestions
 returns-2 c =
     let b = c .before .before .before .before .before .before .args .b .now in
     rw (
-      eq-eqb (length b) 18 (c .before .before .before .before .before .before .pre),
       le-leb (getD b 5 0) 6 (c .before .before .before .if1 .left),
       denied _ (c .before .state-allowed .ensures) (c .if2 .taken),
     )
 
 returns-3 : tie.Need-returns-3
-unfolding stateQuestions
+unfolding fieldQuestions
 returns-3 c =
     let b = c .before .before .before .before .before .before .before .before .before .before .before .args .b .now in
     rw (
-      eq-eqb (length b) 18 (c .before .before .before .before .before .before .before .before .before .before .before .pre),
       le-leb (getD b 5 0) 6 (c .before .before .before .before .before .before .before .before .if1 .left),
       granted _ (c .before .before .before .before .before .before .state-allowed .ensures) (c .before .before .before .before .before .if2 .left),
       denied _ (c .before .flags-allowed .ensures) (c .if3 .taken),
     )
 
 returns-4 : tie.Need-returns-4
-unfolding stateQuestions
+unfolding fieldQuestions
 returns-4 c =
     let b = c .before .before .before .before .before .before .before .before .before .before .before .before .before .before .args .b .now in
     rw (
-      eq-eqb (length b) 18 (c .before .before .before .before .before .before .before .before .before .before .before .before .before .before .pre),
       le-leb (getD b 5 0) 6 (c .before .before .before .before .before .before .before .before .before .before .before .if1 .left),
       granted _ (c .before .before .before .before .before .before .before .before .before .state-allowed .ensures) (c .before .before .before .before .before .before .before .before .if2 .left),
       granted _ (c .before .before .before .before .flags-allowed .ensures) (c .before .before .before .if3 .left),
@@ -55,11 +49,10 @@ returns-4 c =
     )
 
 returns-5 : tie.Need-returns-5
-unfolding stateQuestions
+unfolding fieldQuestions
 returns-5 c =
     let b = c .before .before .before .before .before .before .before .before .before .before .before .before .before .before .before .before .before .before .before .before .before .args .b .now in
     rw (
-      eq-eqb (length b) 18 (c .before .before .before .before .before .before .before .before .before .before .before .before .before .before .before .before .before .before .before .before .before .pre),
       le-leb (getD b 5 0) 6 (c .before .before .before .before .before .before .before .before .before .before .before .before .before .before .before .before .before .before .if1 .left),
       granted _ (c .before .before .before .before .before .before .before .before .before .before .before .before .before .before .before .before .state-allowed .ensures) (c .before .before .before .before .before .before .before .before .before .before .before .before .before .before .before .if2 .left),
       granted _ (c .before .before .before .before .before .before .before .before .before .before .before .flags-allowed .ensures) (c .before .before .before .before .before .before .before .before .before .before .if3 .left),
@@ -68,12 +61,11 @@ returns-5 c =
     )
 
 returns-6 : tie.Need-returns-6
-unfolding stateQuestions
+unfolding fieldQuestions
 returns-6 c =
     let b = c .before .before .before .before .before .before .before .before .before .before .before .before .before .before .before .before .before .before .before .before .before .before .before .before .before .before .before .before .before .args .b .now in
     let limit = c .before .count-limit .ensures ∙ ap₂ countLimit (c .before .before .before .before .before .phase-of .ensures) (c .before .before .w .ensures) in
     rw (
-      eq-eqb (length b) 18 (c .before .before .before .before .before .before .before .before .before .before .before .before .before .before .before .before .before .before .before .before .before .before .before .before .before .before .before .before .before .pre),
       le-leb (getD b 5 0) 6 (c .before .before .before .before .before .before .before .before .before .before .before .before .before .before .before .before .before .before .before .before .before .before .before .before .before .before .if1 .left),
       granted _ (c .before .before .before .before .before .before .before .before .before .before .before .before .before .before .before .before .before .before .before .before .before .before .before .before .state-allowed .ensures) (c .before .before .before .before .before .before .before .before .before .before .before .before .before .before .before .before .before .before .before .before .before .before .before .if2 .left),
       granted _ (c .before .before .before .before .before .before .before .before .before .before .before .before .before .before .before .before .before .before .before .flags-allowed .ensures) (c .before .before .before .before .before .before .before .before .before .before .before .before .before .before .before .before .before .before .if3 .left),
@@ -83,12 +75,11 @@ returns-6 c =
     )
 
 returns-7 : tie.Need-returns-7
-unfolding stateQuestions
+unfolding fieldQuestions
 returns-7 c =
     let b = c .before .before .before .before .before .before .before .before .before .before .before .before .before .before .before .before .before .before .before .before .before .before .before .before .before .before .before .before .before .args .b .now in
     let limit = c .before .count-limit .ensures ∙ ap₂ countLimit (c .before .before .before .before .before .phase-of .ensures) (c .before .before .w .ensures) in
     rw (
-      eq-eqb (length b) 18 (c .before .before .before .before .before .before .before .before .before .before .before .before .before .before .before .before .before .before .before .before .before .before .before .before .before .before .before .before .before .pre),
       le-leb (getD b 5 0) 6 (c .before .before .before .before .before .before .before .before .before .before .before .before .before .before .before .before .before .before .before .before .before .before .before .before .before .before .if1 .left),
       granted _ (c .before .before .before .before .before .before .before .before .before .before .before .before .before .before .before .before .before .before .before .before .before .before .before .before .state-allowed .ensures) (c .before .before .before .before .before .before .before .before .before .before .before .before .before .before .before .before .before .before .before .before .before .before .before .if2 .left),
       granted _ (c .before .before .before .before .before .before .before .before .before .before .before .before .before .before .before .before .before .before .before .flags-allowed .ensures) (c .before .before .before .before .before .before .before .before .before .before .before .before .before .before .before .before .before .before .if3 .left),
@@ -97,8 +88,8 @@ returns-7 c =
       le-ltb _ _ (subst (λ (n : ℕ). n ≤ getD b 6 0) limit (c .if6 .left)),
     )
 
-pub byte-questions-spec : {M : Type 1} → statement M
-byte-questions-spec =
+pub field-questions-spec : {M : Type 1} → statement M
+field-questions-spec =
     tie.close
     (tie.spec
     (λ c. search needs)
@@ -114,6 +105,7 @@ byte-questions-spec =
     (λ c. search needs)
     (λ c κs. search needs)
     returns-4
+    (λ c. search needs)
     (λ c. search needs)
     (λ c. search needs)
     (λ c. search needs)
