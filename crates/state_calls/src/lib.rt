@@ -1,4 +1,4 @@
-// Opening, `chip_state`, restore, `take_save_dirty`, `uses_eeprom` and `eeprom_window_start`: the calls by value on a whole record.
+// The calls by value on a whole record: opening, `chip_state`, restore, `take_save_dirty` and the EEPROM questions.
 
 use cart::Cartridge;
 use cart::Reply;
