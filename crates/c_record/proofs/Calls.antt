@@ -1,50 +1,30 @@
--- From a call on a record to the call on its 24 bytes. Assumes nothing.
-use mathlib.Core.Path.{_≡_, sym, ap, _∙_}
+-- From the machine's call to the call on a record's bytes. Assumes nothing.
+use mathlib.Core.Path.{_≡_, refl, sym, ap, _∙_}
 use mathlib.Core.Logic.{_≢_}
-use mathlib.Core.Bool.{true, false}
+use mathlib.Core.Bool.{false}
 use mathlib.Core.List.{List}
 use Prim.Native.Nat.{ℕ}
 use Rattle.lists.specs.Questions.{asked}
-use Rattle.out_params.specs.Places.{told}
-use Rattle.cart.specs.declared.Cartridge.{Cartridge}
-use Rattle.cart.specs.declared.Reply.{Reply}
 use Rattle.cart.specs.Record.{State, Outcome}
-use Rattle.cart.specs.Calls.{Call, questions, step}
-use Rattle.cart.specs.Replies.{state, replied}
-use Rattle.cart.proofs.Replies.{step-no}
-use Rattle.c_record.specs.RecordBytes.{recordBytes, cartOf, isRecord, stateOf}
-use Rattle.c_record.specs.Abi.{leftBy, called, calledAt}
+use Rattle.cart.specs.Calls.{Call, questions, accepted, step}
+use Rattle.cart.proofs.Replies.{step-no, step-yes}
+use Rattle.c_record.specs.RecordBytes.{isRecord, Valid, stateOf}
+use Rattle.c_record.specs.AtExit.{left, untouched, called}
 
--- refused with the number of the first question that is answered no: all as it was
-pub called-refused : (q : Call) (d r m : List ℕ) (n : ℕ) → isRecord r ≡ true → recordBytes (cartOf r) ≡ r → n ≡ asked (questions q d (stateOf r m)) → n ≢ 0 → (n, r, m) ≡ called (step q d) r m
-unfolding called
-called-refused q d r m n h b e k = rw (h, step-no q d (stateOf r m) n e k) (λ i. (n, sym b i, m))
-
-module _ (call : State → Outcome) (r m : List ℕ) where
-  pub called-no : isRecord r ≡ false → (2, r, m) ≡ called call r m
+module _ (call : State → Outcome) (d r m : List ℕ) where
+  pub no-record : isRecord r ≡ false → untouched 2 d r m ≡ called call d r m
   unfolding called
-  called-no h = rw h
+  no-record h = rw h
 
-  pub called-yes : {c : Cartridge} (reply : Reply) {b m' : List ℕ} {x : ℕ} → isRecord r ≡ true → c ≡ cartOf r → (reply, m') ≡ replied (call (state c m)) → (x, b) ≡ leftBy reply
-      → (x, b, m') ≡ called call r m
+  pub of-record : Valid r → left (call (stateOf r m)) ≡ called call d r m
   unfolding called
-  called-yes reply {m' = m'} h e f w =
-      rw (h, ← e)
-      (ap (λ (l : ℕ × List ℕ). (l .0, l .1, m')) w ∙ ap (λ (q : Reply × List ℕ). (q .0 .refusal, recordBytes (q .0 .cart), q .1)) f)
+  of-record v = rw (v .yes)
 
-  -- with a place for a number
-  module _ (place : ℕ) where
-    pub called-at-no : isRecord r ≡ false → (2, r, m, place) ≡ calledAt call r m place
-    unfolding calledAt
-    called-at-no h = rw h
+-- one of the nine calls on a valid record, its questions asked
+module _ (q : Call) (d r m : List ℕ) (v : Valid r) where
+  pub refused : (n : ℕ) → n ≡ asked (questions q d (stateOf r m)) → n ≢ 0 → untouched n d r m ≡ called (step q d) d r m
+  refused n e h =
+      (λ i. untouched n d (sym (v .back) i) m) ∙ ap left (sym (step-no q d (stateOf r m) n e h)) ∙ of-record (step q d) d r m v
 
-    pub called-at-yes : {c : Cartridge} (reply : Reply) {b m' : List ℕ} {x p : ℕ} → isRecord r ≡ true → c ≡ cartOf r → (reply, m') ≡ replied (call (state c m))
-        → b ≡ leftBy reply .1
-        → (x, p) ≡ told (reply .refusal) (reply .value) place
-        → (x, b, m', p) ≡ calledAt call r m place
-    unfolding calledAt
-    called-at-yes reply {b} {m'} h e f g t =
-        rw (h, ← e)
-        (ap (λ (l : ℕ × ℕ). (l .0, b, m', l .1)) t
-        ∙ ap (λ (l : List ℕ). (reply .refusal, l, m', told (reply .refusal) (reply .value) place .1)) g
-        ∙ ap (λ (q : Reply × List ℕ). (q .0 .refusal, recordBytes (q .0 .cart), q .1, told (q .0 .refusal) (q .0 .value) place .1)) f)
+  pub done : 0 ≡ asked (questions q d (stateOf r m)) → left (accepted q d (stateOf r m)) ≡ called (step q d) d r m
+  done e = ap left (sym (step-yes q d (stateOf r m) 0 e refl)) ∙ of-record (step q d) d r m v

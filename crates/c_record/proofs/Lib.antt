@@ -1,2 +1,3 @@
 pub mod RecordBytes
+pub mod FieldBytes
 pub mod Calls

@@ -1,4 +1,4 @@
--- The 24 bytes and the record give each other back. Assumes nothing.
+-- The bytes and the record give each other back. Assumes nothing.
 use mathlib.Core.Path.{_≡_, refl, sym, ap, _∙_}
 use mathlib.Core.Bool.{Bool, true, false, _&&_}
 use mathlib.Core.List.{List, [], _∷_, _++_}
@@ -10,7 +10,6 @@ use lib.ListN.{length, getD, take, drop, replicate, length-drop, length-take, ta
 use lib.Pow.{areBytes}
 use lib.Seq.{drop-cons, take-all}
 use borrow.Author.Tests.{leb-true, eqb-true, eqb-false, lt-ltb, lt-leb, le-leb}
-use Rattle.kind.specs.Kind.{kindOf}
 use Rattle.lists.specs.Lists.{lowFirst, lowValue}
 use Rattle.lists.specs.Questions.{asked}
 use Rattle.lists.proofs.Bools.{split, and-left, and-right}
@@ -23,11 +22,10 @@ use Rattle.kind.specs.Kind.{kindNumber}
 use Rattle.kind.proofs.Numbers.{kind-le, kind-back, kind-forth}
 use Rattle.cart.specs.declared.ChipRecord.{ChipRecord}
 use Rattle.cart.specs.declared.Cartridge.{Cartridge}
-use Rattle.cart.specs.ChipState.{bit, chipBytes, chipOf, stateQuestions}
+use Rattle.cart.specs.ChipState.{bit, chipBytes, chipOf, fieldQuestions}
 use Rattle.cart.specs.Record.{recordAllowed, freshCart}
-use Rattle.cart.proofs.ChipState.{bit-le, bit-back, chip-back, bytes-back}
-use Rattle.cart.proofs.Fields.{state-18}
-use Rattle.c_record.specs.RecordBytes.{recordBytes, cartOf, isRecord}
+use Rattle.cart.proofs.ChipState.{bit-le, bit-back, own-size, chip-back, bytes-back}
+use Rattle.c_record.specs.RecordBytes.{recordBytes, cartOf, isRecord, Valid}
 use Rattle.c_record.specs.Claims.{RecordAndBytes}
 
 -- four bytes as one number, and a number's four bytes
@@ -44,27 +42,31 @@ bit-forth n h =
     let l = leb-true n 1 h in
     split (λ x. x ≡ n) (eqb n 1) (λ e. sym (eqb-true n 1 e)) (λ e. let q = eqb-false n 1 e in omega arith)
 
--- the four questions of 24 bytes, one by one
+-- what is asked of a record's bytes, one by one
 pub record Yes (r : List ℕ) : Type 0 where
   pub kindOk : leb (getD r 4 0) 5 ≡ true
   pub flagOk : leb (getD r 5 0) 1 ≡ true
   pub lenOk : imageLength (lowValue (take 4 r)) ≡ true
-  pub chipOk : asked (stateQuestions (drop 6 r)) ≡ 0
+  pub sizeOk : length r ≡ 24
+  pub chipOk : asked (fieldQuestions (drop 6 r)) ≡ 0
 
 pub yes : (r : List ℕ) → isRecord r ≡ true → Yes r
 unfolding isRecord
 yes r h =
+    let s : Bool = eqb (length r) 24 in
     let k : Bool = leb (getD r 4 0) 5 in
     let f : Bool = leb (getD r 5 0) 1 in
     let l : Bool = imageLength (lowValue (take 4 r)) in
-    let n : ℕ = asked (stateQuestions (drop 6 r)) in
-    let kfl = and-left (k && f && l) (eqb n 0) h in
-    let kf = and-left (k && f) l kfl in
+    let n : ℕ = asked (fieldQuestions (drop 6 r)) in
+    let skfl = and-left (s && k && f && l) (eqb n 0) h in
+    let skf = and-left (s && k && f) l skfl in
+    let sk = and-left (s && k) f skf in
     record {
-      kindOk = and-left k f kf;
-      flagOk = and-right k f kf;
-      lenOk = and-right (k && f) l kfl;
-      chipOk = eqb-true n 0 (and-right (k && f && l) (eqb n 0) h);
+      kindOk = and-right s k sk;
+      flagOk = and-right (s && k) f skf;
+      lenOk = and-right (s && k && f) l skfl;
+      sizeOk = eqb-true (length r) 24 (and-left s k sk);
+      chipOk = eqb-true n 0 (and-right (s && k && f && l) (eqb n 0) h);
     }
 
 image-lt : (n : ℕ) → imageLength n ≡ true → n < 256 ^ 4
@@ -75,10 +77,10 @@ written : (c : Cartridge) → recordAllowed c ≡ true → c .chip .eeprom .acc 
 unfolding isRecord recordBytes cartOf recordAllowed lowFirst
 written c h a =
     let l : Bool = imageLength (c .len) in
-    let n : ℕ = asked (stateQuestions (chipBytes (c .chip))) in
+    let n : ℕ = asked (fieldQuestions (chipBytes (c .chip))) in
     let lenOk = and-left l (eqb n 0) h in
     let back : lowValue (lowFirst 4 (c .len)) ≡ c .len = low-back 4 (c .len) (image-lt (c .len) lenOk) in (
-      rw (kind-le (c .kind), bit-le (c .dirty), back, lenOk, and-right l (eqb n 0) h),
+      rw (own-size (c .chip), kind-le (c .kind), bit-le (c .dirty), back, lenOk, and-right l (eqb n 0) h),
       λ i.
           record {
             len = back i;
@@ -93,9 +95,9 @@ unfolding recordBytes cartOf recordAllowed
 read r b h =
     let y = yes r h in
     let d = drop 6 r in
-    let k : chipBytes (chipOf d) ≡ d = bytes-back d (bytes-drop 6 r b) (y .chipOk) in
-    let m : length d ≡ 18 = state-18 d (y .chipOk) in
-    let n : 24 ≤ length r = omega (arith, length-drop 6 r) in
+    let n : length r ≡ 24 = y .sizeOk in
+    let m : length d ≡ 18 = length-drop 6 r ∙ omega arith in
+    let k : chipBytes (chipOf d) ≡ d = bytes-back d (bytes-drop 6 r b) m (y .chipOk) in
     let t : length (take 4 r) ≡ 4 = length-take 4 r ∙ omega arith in (
       rw (k, y .lenOk, y .chipOk),
       rw (k, kind-forth (getD r 4 0) (y .kindOk), bit-forth (getD r 5 0) (y .flagOk), low-forth 4 (take 4 r) t (bytes-take 4 r b))
@@ -110,64 +112,39 @@ pub record-and-bytes : RecordAndBytes
 record-and-bytes = record { written = written; read = read; nothing = nothing }
 
 -- the bytes, written one by one
-eighteen : (c : ChipRecord) → length (chipBytes c) ≡ 18
-unfolding chipBytes lowFirst
-eighteen c = refl
-
 pub record-spelled : (c : Cartridge) (k d : ℕ) (b : List ℕ) → k ≡ kindNumber (c .kind) → d ≡ bit (c .dirty) → b ≡ chipBytes (c .chip)
     → c .len % 256 ∷ c .len / 256 % 256 ∷ c .len / 65536 % 256 ∷ c .len / 16777216 % 256 ∷ k ∷ d ∷ spelled b 0 0 18 ≡ recordBytes c
 unfolding recordBytes
 record-spelled c k d b e f g =
-    let n : length b ≡ 18 = ap length g ∙ eighteen (c .chip) in
+    let n : length b ≡ 18 = ap length g ∙ own-size (c .chip) in
     let s : spelled b 0 0 18 ≡ b = sym (spells b 0 18 0 (omega arith)) ∙ take-all 18 b (omega arith) in
     sym (rw (four-bytes (c .len), ← e, ← f, ← g)
     (ap (λ (l : List ℕ). c .len % 256 ∷ c .len / 256 % 256 ∷ c .len / 65536 % 256 ∷ c .len / 16777216 % 256 ∷ k ∷ d ∷ l) (sym s)))
 
--- what is read field by field, and that it is written back
+-- bytes of which question 2 is answered yes
 are-bytes : (l : List ℕ) → ((i : ℕ) → getD l i 0 < 256) → areBytes l ≡ true
 are-bytes [] h = refl
 are-bytes (b ∷ l) h = rw (lt-ltb b 256 (h 0), are-bytes l (λ i. h (suc i)))
 
-pub good-record : (r : List ℕ) → ((i : ℕ) → getD r i 0 < 256) → isRecord r ≡ true → (recordAllowed (cartOf r) ≡ true) × (recordBytes (cartOf r) ≡ r)
-good-record r b h = read r (are-bytes r b) h
+pub valid-record : (r : List ℕ) → ((i : ℕ) → getD r i 0 < 256) → isRecord r ≡ true → Valid r
+valid-record r b h = let y = read r (are-bytes r b) h in record { yes = h; allowed = y .0; back = y .1 }
 
-fields : (r : List ℕ) (n : ℕ) (k : SaveType) (chip : ChipRecord)
-    → n ≡ getD r 0 0 + 256 * (getD r 1 0 + 256 * (getD r 2 0 + 256 * getD r 3 0))
-    → k ≡ kindOf (getD r 4 0)
-    → chip ≡ chipOf (take (length r - 6) (drop 6 r))
-    → record { len = n; kind = k; dirty = eqb (getD r 5 0) 1; chip = chip } ≡ cartOf r
-unfolding cartOf
-fields r n k chip e f g =
-    let l = e ∙ low-four r in
-    let p = g ∙ ap chipOf (rest 6 r) in
-    λ i. record { len = l i; kind = f i; dirty = eqb (getD r 5 0) 1; chip = p i }
+-- the questions of a record's bytes, up to the first no
+module _ (r : List ℕ) (n : length r ≡ 24) where
+  pub no-kind : 5 < getD r 4 0 → false ≡ isRecord r
+  unfolding isRecord
+  no-kind k = rw (n, lt-leb (getD r 4 0) 5 k)
 
-pub record-read : (r : List ℕ) (n : ℕ) (k : SaveType) (chip : ChipRecord) → ((i : ℕ) → getD r i 0 < 256) → isRecord r ≡ true
-    → n ≡ getD r 0 0 + 256 * (getD r 1 0 + 256 * (getD r 2 0 + 256 * getD r 3 0))
-    → k ≡ kindOf (getD r 4 0)
-    → chip ≡ chipOf (take (length r - 6) (drop 6 r))
-    → let c : Cartridge = record { len = n; kind = k; dirty = eqb (getD r 5 0) 1; chip = chip } in
-    (c ≡ cartOf r) × (recordAllowed c ≡ true) × (recordBytes c ≡ r)
-record-read r n k chip b h e f g =
-    let q = fields r n k chip e f g in
-    let y = read r (are-bytes r b) h in
-    (q, ap recordAllowed q ∙ y .0, ap recordBytes q ∙ y .1)
+  pub no-flag : getD r 4 0 ≤ 5 → 1 < getD r 5 0 → false ≡ isRecord r
+  unfolding isRecord
+  no-flag k f = rw (n, le-leb (getD r 4 0) 5 k, lt-leb (getD r 5 0) 1 f)
 
--- the questions of 24 bytes, up to the first no
-pub no-kind : (r : List ℕ) → 5 < getD r 4 0 → false ≡ isRecord r
-unfolding isRecord
-no-kind r k = rw (lt-leb (getD r 4 0) 5 k)
+  pub no-length : getD r 4 0 ≤ 5 → getD r 5 0 ≤ 1 → imageLength (lowValue (take 4 r)) ≡ false → false ≡ isRecord r
+  unfolding isRecord
+  no-length k f l = rw (n, le-leb (getD r 4 0) 5 k, le-leb (getD r 5 0) 1 f, l)
 
-pub no-flag : (r : List ℕ) → getD r 4 0 ≤ 5 → 1 < getD r 5 0 → false ≡ isRecord r
-unfolding isRecord
-no-flag r k f = rw (le-leb (getD r 4 0) 5 k, lt-leb (getD r 5 0) 1 f)
-
-pub no-length : (r : List ℕ) → getD r 4 0 ≤ 5 → getD r 5 0 ≤ 1 → imageLength (lowValue (take 4 r)) ≡ false → false ≡ isRecord r
-unfolding isRecord
-no-length r k f l = rw (le-leb (getD r 4 0) 5 k, le-leb (getD r 5 0) 1 f, l)
-
-pub by-chip : (r : List ℕ) {n : ℕ} → getD r 4 0 ≤ 5 → getD r 5 0 ≤ 1 → imageLength (lowValue (take 4 r)) ≡ true
-    → n ≡ asked (stateQuestions (take (length r - 6) (drop 6 r)))
-    → eqb n 0 ≡ isRecord r
-unfolding isRecord
-by-chip r k f l e = rw (le-leb (getD r 4 0) 5 k, le-leb (getD r 5 0) 1 f, l, e, rest 6 r)
+  pub by-chip : {x : ℕ} → getD r 4 0 ≤ 5 → getD r 5 0 ≤ 1 → imageLength (lowValue (take 4 r)) ≡ true
+      → x ≡ asked (fieldQuestions (take (length r - 6) (drop 6 r)))
+      → eqb x 0 ≡ isRecord r
+  unfolding isRecord
+  by-chip k f l e = rw (n, le-leb (getD r 4 0) 5 k, le-leb (getD r 5 0) 1 f, l, e, rest 6 r)

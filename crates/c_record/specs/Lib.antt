@@ -1,3 +1,5 @@
 pub mod RecordBytes
-pub mod Abi
+pub mod Fields
+pub mod AtExit
+pub mod Calls
 pub mod Claims

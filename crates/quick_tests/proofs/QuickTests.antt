@@ -1,12 +1,12 @@
 -- The quick tests imply question 2. Assumes nothing.
-use mathlib.Core.Path.{_≡_, refl, sym, _∙_}
+use mathlib.Core.Path.{_≡_, refl, sym}
 use mathlib.Core.Logic.{_≢_}
 use mathlib.Core.Bool.{Bool, true, false, true≢false}
 use mathlib.Core.List.{List}
 use Prim.Native.Nat.{ℕ, _+_, _*_, _≤_, _<_}
 use native.Mathlib.Omega.{arith}
 use lib.Dec.{leb, eqb}
-use lib.ListN.{length, getD, take, drop, length-drop}
+use lib.ListN.{length, getD, take, drop}
 use lib.Seq.{getD-drop}
 use borrow.Author.Tests.{le-leb, lt-leb, lt-ltb, eqb-false, ne-eqb}
 use Rattle.lists.specs.Lists.{lowValue}
@@ -17,9 +17,9 @@ use Rattle.flash.specs.Flash.{stateAllowed}
 use Rattle.eeprom.specs.declared.EepromPhase.{EepromPhase}
 use Rattle.eeprom.specs.declared.EepromPhase.the-variants.{Opcode, ReadAddress, WriteAddress, WriteData, ReadStop, WriteStop, Reading}
 use Rattle.eeprom.specs.Eeprom.{widthAllowed, w, countLimit}
-use Rattle.cart.specs.ChipState.{phaseOf, stateQuestions}
+use Rattle.cart.specs.ChipState.{phaseOf, fieldQuestions}
 use Rattle.c_record.specs.RecordBytes.{isRecord}
-use Rattle.quick_tests.specs.QuickTests.{isKnown, FlashUsual, FieldsUsual, SerialRests, CountAllowed, WantsMore}
+use Rattle.quick_tests.specs.QuickTests.{isKnown, FlashUsual, FieldsUsual, SerialRests, CountAllowed}
 
 -- a test that says no shows nothing
 pub never : {P : Type 0} → false ≡ true → P
@@ -49,18 +49,27 @@ limit-positive ReadStop n h = omega arith
 limit-positive WriteStop n h = omega arith
 limit-positive Reading n h = omega arith
 
-pub count-zero : (phase count : ℕ) → phase ≤ 6 → count ≡ 0 → (width : ℕ) (large : Bool) → CountAllowed phase count width large
-count-zero phase count p z width large =
+pub count-zero : (phase count width : ℕ) (large : Bool) → phase ≤ 6 → count ≡ 0 → CountAllowed phase count width large
+count-zero phase count width large p z =
     (p, omega (arith, z), rw z (lt-ltb 0 (countLimit (phaseOf phase) (w width large)) (limit-positive (phaseOf phase) (w width large) (w-positive width large))))
 
-pub count-data : (phase count : ℕ) → phase ≡ 3 → count < 64 → (width : ℕ) (large : Bool) → CountAllowed phase count width large
+pub count-data : (phase count width : ℕ) (large : Bool) → phase ≡ 3 → count < 64 → CountAllowed phase count width large
 unfolding phaseOf
-count-data phase count e l width large = (omega (arith, e), omega arith, rw e (lt-ltb count 64 l))
+count-data phase count width large e l = (omega (arith, e), omega arith, rw e (lt-ltb count 64 l))
 
--- the width
-pub width-14 : (width large : ℕ) → width ≡ 14 → large ≡ 1 → (widthAllowed width ≡ true) × (large ≤ 1)
-unfolding widthAllowed
-width-14 width large e f = (rw e refl, omega (arith, f))
+pub count-opcode : (phase count width : ℕ) (large : Bool) → phase ≡ 0 → count < 2 → CountAllowed phase count width large
+unfolding phaseOf
+count-opcode phase count width large e l = (omega (arith, e), omega arith, rw e (lt-ltb count 2 l))
+
+pub count-address : (phase count width : ℕ) (large : Bool) → phase ≢ 3 → phase ≢ 0 → phase ≤ 3 → count ≤ 64 → count < w width large
+    → CountAllowed phase count width large
+unfolding phaseOf
+count-address phase count width large h z p c l = (
+  omega arith,
+  c,
+  cases (eqb phase 1) (λ e. rw (ne-eqb phase 0 z, e) (lt-ltb count (w width large) l))
+      (λ e. let k : phase ≡ 2 = omega (arith, eqb-false phase 1 e, h, z) in rw k (lt-ltb count (w width large) l)),
+)
 
 -- the flash chip at rest
 pub flash-zero : (r : List ℕ) → getD r 6 0 ≡ 0 → getD r 7 0 ≤ 1 → getD r 8 0 ≤ 1 → FlashUsual r
@@ -68,11 +77,10 @@ unfolding stateAllowed
 flash-zero r s b i = record { state = rw s refl; bank = b; id = i }
 
 -- the chip record, and the whole record
-chip-usual : (r : List ℕ) → FieldsUsual r → CountAllowed (getD r 11 0) (getD r 12 0) (getD r 9 0) (eqb (getD r 10 0) 1) → asked (stateQuestions (drop 6 r)) ≡ 0
-unfolding stateQuestions
+chip-usual : (r : List ℕ) → FieldsUsual r → CountAllowed (getD r 11 0) (getD r 12 0) (getD r 9 0) (eqb (getD r 10 0) 1) → asked (fieldQuestions (drop 6 r)) ≡ 0
+unfolding fieldQuestions
 chip-usual r f k =
-    let n : length (drop 6 r) ≡ 18 = length-drop 6 r ∙ omega (arith, f .size) in
-    rw (n, getD-drop 6 r 0 0, getD-drop 6 r 1 0, getD-drop 6 r 2 0, getD-drop 6 r 3 0, getD-drop 6 r 4 0, getD-drop 6 r 5 0, getD-drop 6 r 6 0, getD-drop 6 r 7 0, getD-drop 6 r 8 0, getD-drop 6 r 9 0)
+    rw (getD-drop 6 r 0 0, getD-drop 6 r 1 0, getD-drop 6 r 2 0, getD-drop 6 r 3 0, getD-drop 6 r 4 0, getD-drop 6 r 5 0, getD-drop 6 r 6 0, getD-drop 6 r 7 0, getD-drop 6 r 8 0, getD-drop 6 r 9 0)
     (rw (le-leb (getD r 11 0) 6 (k .0), f .flash .state, le-leb (getD r 7 0) 1 (f .flash .bank), le-leb (getD r 8 0) 1 (f .flash .id), le-leb (getD r 10 0) 1 (f .large), f .width, le-leb (getD r 12 0) 64 (k .1), le-leb (getD r 13 0 + 256 * getD r 14 0) 1023 (f .block), le-leb (getD r 15 0) 67 (f .place), k .2) refl)
 
 pub usual-record : (r : List ℕ) → FieldsUsual r → CountAllowed (getD r 11 0) (getD r 12 0) (getD r 9 0) (eqb (getD r 10 0) 1) → isKnown r ≡ true → isRecord r ≡ true
@@ -80,7 +88,7 @@ unfolding isKnown isRecord
 usual-record r f k h =
     let a : Bool = leb (getD r 4 0) 5 in
     let b : Bool = imageLength (lowValue (take 4 r)) in
-    rw (and-left a b h, le-leb (getD r 5 0) 1 (f .flag), and-right a b h, chip-usual r f k) refl
+    rw (f .size, and-left a b h, le-leb (getD r 5 0) 1 (f .flag), and-right a b h, chip-usual r f k) refl
 
 -- the serial chip at rest
 pub rests-record : (r : List ℕ) → length r ≡ 24 → getD r 5 0 ≤ 1 → FlashUsual r → SerialRests r → isKnown r ≡ true → isRecord r ≡ true
@@ -96,27 +104,4 @@ rests-record r n f h s =
       block = omega (arith, s .block);
       place = omega (arith, s .place);
     })
-    (count-zero (getD r 11 0) (getD r 12 0) (omega (arith, s .phase)) (s .count) (getD r 9 0) (eqb (getD r 10 0) 1))
-
--- one bit more
-pub data-more : (phase count w : ℕ) → phase ≡ 3 → count < 63 → (phase ≤ 3) × (count + 1 < countLimit (phaseOf phase) w)
-unfolding phaseOf
-data-more phase count w e l = (omega (arith, e), rw e (omega arith))
-
-pub opcode-more : (phase count w : ℕ) → phase ≡ 0 → count ≡ 0 → (phase ≤ 3) × (count + 1 < countLimit (phaseOf phase) w)
-unfolding phaseOf
-opcode-more phase count w e z = (omega (arith, e), rw (e, z) (omega arith))
-
-pub address-more : (phase count w : ℕ) → phase ≢ 3 → phase ≢ 0 → phase ≤ 3 → count + 1 < w → (phase ≤ 3) × (count + 1 < countLimit (phaseOf phase) w)
-unfolding phaseOf
-address-more phase count w h z p l =
-    (p, cases (eqb phase 1) (λ e. rw (ne-eqb phase 0 z, e) l) (λ e. let k : phase ≡ 2 = omega (arith, eqb-false phase 1 e, h, z) in rw k l))
-
-pub more-record : (r : List ℕ) → FieldsUsual r → getD r 12 0 ≤ 63
-    → (getD r 11 0 ≤ 3) × (getD r 12 0 + 1 < countLimit (phaseOf (getD r 11 0)) (w (getD r 9 0) (eqb (getD r 10 0) 1)))
-    → isKnown r ≡ true
-    → (isRecord r ≡ true) × WantsMore r
-more-record r f c k h = (
-  usual-record r f (omega (arith, k .0), omega arith, lt-ltb (getD r 12 0) _ (omega (arith, k .1))) h,
-  record { small = c; below = k .1 },
-)
+    (count-zero (getD r 11 0) (getD r 12 0) (getD r 9 0) (eqb (getD r 10 0) 1) (omega (arith, s .phase)) (s .count))

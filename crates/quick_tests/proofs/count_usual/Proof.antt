@@ -1,16 +1,48 @@
+-- `quick_tests::count_usual` meets its contract. Assumes nothing.
+use mathlib.Core.Path.{subst}
+use Prim.Native.Nat.{ℕ, _<_}
 use borrow.Author.Tests.{ltb-true, leb-true}
-use Rattle.quick_tests.proofs.QuickTests.{never, count-zero, count-data}
+use Rattle.quick_tests.proofs.QuickTests.{never, count-zero, count-data, count-opcode, count-address}
+use borrow.Author.Needs.{needs}
 use Rattle.quick_tests.proofs.count_usual.Statement.{statement}
 use Rattle.quick_tests.proofs.count_usual.Tie as tie
 
 returns : tie.Need-returns
-returns c = λ e. count-data (c .before .args .phase) (c .before .args .count) (c .if1 .taken) (ltb-true (c .before .args .count) 64 e)
+returns c =
+    let a = c .before .args in
+    λ e. count-data (a .phase) (a .count) (a .width) (a .large) (c .if1 .taken) (ltb-true (a .count) 64 e)
 
 returns-2 : tie.Need-returns-2
-returns-2 c = λ e. never e
+returns-2 c =
+    let a = c .before .before .args in
+    λ e. count-zero (a .phase) (a .count) (a .width) (a .large) (leb-true (a .phase) 6 e) (c .if2 .taken)
 
 returns-3 : tie.Need-returns-3
-returns-3 c = λ e. count-zero (c .before .before .args .phase) (c .before .before .args .count) (leb-true (c .before .before .args .phase) 6 e) (c .if2 .left)
+returns-3 c =
+    let a = c .before .before .before .args in
+    λ e. count-opcode (a .phase) (a .count) (a .width) (a .large) (c .if3 .taken) (ltb-true (a .count) 2 e)
+
+returns-4 : tie.Need-returns-4
+returns-4 c = λ e. never e
+
+returns-5 : tie.Need-returns-5
+returns-5 c = λ e. never e
+
+returns-6 : tie.Need-returns-6
+returns-6 c =
+    let a = c .before .before .before .before .before .before .args in
+    λ e.
+    count-address (a .phase) (a .count) (a .width) (a .large) (c .before .before .before .before .before .if1 .left) (c .before .before .before .if3 .left) (c .before .before .if4 .left) (c .before .if5 .left)
+    (subst (λ (n : ℕ). a .count < n) (c .w .ensures) (ltb-true _ _ e))
 
 pub count-usual-spec : {M : Type 1} → statement M
-count-usual-spec = tie.close (tie.spec returns returns-2 returns-3)
+count-usual-spec =
+    tie.close
+    (tie.spec
+    returns
+    returns-2
+    returns-3
+    returns-4
+    returns-5
+    (λ c κs. search needs)
+    returns-6)

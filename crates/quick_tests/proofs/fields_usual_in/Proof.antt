@@ -49,6 +49,7 @@ fields-usual-in-spec =
     (λ c κs. search needs)
     returns-3
     (λ c. search needs)
+    (λ c. search needs)
     returns-4
     (λ c. search needs)
     returns-5)

@@ -1,17 +1,17 @@
 use mathlib.Core.Path.{ap, _∙_}
 use native.Mathlib.Omega.{arith}
 use Rattle.image.specs.Image.{imageLength}
-use Rattle.c_record.proofs.RecordBytes.{low-four, good-record}
+use Rattle.c_record.proofs.RecordBytes.{low-four, valid-record}
 use Rattle.quick_tests.proofs.QuickTests.{unknown-kind, known-kind}
 use borrow.Author.Needs.{needs}
 use Rattle.quick_tests.proofs.known_in.Statement.{statement}
 use Rattle.quick_tests.proofs.known_in.Tie as tie
 
 returns : tie.Need-returns
-returns c = let r = c .before .before .before .args .bytes .now in (unknown-kind r (c .if1 .taken), good-record r (λ i. omega (arith, c .before .before .shared-slice-known .given i)))
+returns c = let r = c .before .before .before .args .bytes .now in (unknown-kind r (c .if1 .taken), valid-record r (λ i. omega (arith, c .before .before .shared-slice-known .given i)))
 
 returns-2 : tie.Need-returns-2
-returns-2 c = let r = c .before .before .before .before .before .before .before .before .before .args .bytes .now in (known-kind r (c .before .before .before .before .before .before .if1 .left) (c .image-length .ensures ∙ ap imageLength (c .before .low32 .ensures ∙ low-four r)), good-record r (λ i. omega (arith, c .before .before .before .before .before .before .before .before .shared-slice-known .given i)))
+returns-2 c = let r = c .before .before .before .before .before .before .before .before .before .args .bytes .now in (known-kind r (c .before .before .before .before .before .before .if1 .left) (c .image-length .ensures ∙ ap imageLength (c .before .low32 .ensures ∙ low-four r)), valid-record r (λ i. omega (arith, c .before .before .before .before .before .before .before .before .shared-slice-known .given i)))
 
 pub known-in-spec : {M : Type 1} → statement M
 known-in-spec =

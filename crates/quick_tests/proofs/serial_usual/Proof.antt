@@ -1,7 +1,5 @@
 use Rattle.lists.proofs.Bools.{granted}
 use mathlib.Core.Path.{refl}
-use lib.Dec.{eqb}
-use lib.ListN.{getD}
 use Rattle.quick_tests.proofs.QuickTests.{never, usual-record}
 use borrow.Author.Needs.{needs}
 use Rattle.quick_tests.proofs.serial_usual.Statement.{statement}
@@ -11,7 +9,9 @@ returns : tie.Need-returns
 returns c = λ e h. never e
 
 returns-2 : tie.Need-returns-2
-returns-2 c = λ e h. let r = c .before .before .before .before .before .args .r .now in usual-record r (c .before .before .before .before .fields-usual .ensures (granted _ refl (c .before .before .before .if1 .left))) (c .count-usual .ensures e (getD r 9 0) (eqb (getD r 10 0) 1)) h
+returns-2 c = λ e h.
+    let r = c .before .before .before .before .before .before .before .args .cart .now in
+    usual-record r (c .before .before .before .before .before .before .fields-usual .ensures (granted _ refl (c .before .before .before .before .before .if1 .left))) (c .count-usual .ensures e) h
 
 pub serial-usual-spec : {M : Type 1} → statement M
 serial-usual-spec =
@@ -19,6 +19,8 @@ serial-usual-spec =
     (tie.spec
     (λ c κs. search needs)
     returns
+    (λ c. search needs)
+    (λ c. search needs)
     (λ c. search needs)
     (λ c. search needs)
     (λ c κs. search needs)

@@ -2,8 +2,8 @@ use mathlib.Core.Path.{refl, sym, _∙_}
 use Rattle.lists.proofs.Bools.{granted}
 use Rattle.quick_tests.proofs.QuickTests.{never, rests-record}
 use borrow.Author.Needs.{needs}
-use Rattle.quick_tests.proofs.write_usual_in.Statement.{statement}
-use Rattle.quick_tests.proofs.write_usual_in.Tie as tie
+use Rattle.quick_tests.proofs.bytes_usual_in.Statement.{statement}
+use Rattle.quick_tests.proofs.bytes_usual_in.Tie as tie
 
 returns : tie.Need-returns
 returns c = λ e h. never e
@@ -20,8 +20,8 @@ returns-4 c = λ e h.
     rests-record (c .before .before .before .before .before .before .before .before .before .args .bytes .now) (c .before .before .before .before .before .before .before .before .before .pre) (c .before .before .before .before .before .before .if1 .left)
     (record { state = sym (c .state-allowed .ensures) ∙ e; bank = c .before .before .before .before .if2 .left; id = s .0 }) (s .1) h
 
-pub write-usual-in-spec : {M : Type 1} → statement M
-write-usual-in-spec =
+pub bytes-usual-in-spec : {M : Type 1} → statement M
+bytes-usual-in-spec =
     tie.close
     (tie.spec
     (λ c. search needs)

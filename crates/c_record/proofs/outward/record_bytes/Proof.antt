@@ -1,10 +1,10 @@
--- `c_record::record_bytes` meets its contract. Assumes nothing.
+-- `c_record::outward::record_bytes` meets its contract. Assumes nothing.
 use native.Mathlib.Omega.{arith}
 use Rattle.kind.proofs.Numbers.{kind-lt}
 use Rattle.c_record.proofs.RecordBytes.{record-spelled}
 use borrow.Author.Needs.{needs}
-use Rattle.c_record.proofs.record_bytes.Statement.{statement}
-use Rattle.c_record.proofs.record_bytes.Tie as tie
+use Rattle.c_record.proofs.outward.record_bytes.Statement.{statement}
+use Rattle.c_record.proofs.outward.record_bytes.Tie as tie
 
 cast-t18 : tie.Need-cast-t18
 cast-t18 c = omega (arith, kind-lt (c .before .before .before .before .before .before .before .args .cart .kind) (c .kind-number .ensures))

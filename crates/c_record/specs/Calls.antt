@@ -1,0 +1,50 @@
+-- What each exported call on a record leaves: the machine's own call, of the record that its bytes are.
+use mathlib.Core.List.{List, []}
+use Prim.Native.Nat.{ℕ}
+use Rattle.cart.specs.Record.{fromBytes}
+use Rattle.cart.specs.Calls.{saveRead, saveWrite, eepromBeginDma, eepromWrite, eepromRead, loadSave, saveData, chipState, takeSaveDirty}
+use Rattle.cart.specs.Calls.{step, restore, importSave, usesEepromOf, eepromWindowStart}
+use Rattle.c_record.specs.AtExit.{left, called, plain, valueAt, flagAt, stateAt, exportAt, askedAt}
+
+-- opening writes the record, whatever it was
+abbrev pub opens : List ℕ → List ℕ → ℕ × List ℕ × List ℕ
+opens image m = plain (left (fromBytes image m))
+
+abbrev pub reads : ℕ → List ℕ → List ℕ → ℕ → ℕ × List ℕ × List ℕ × ℕ
+reads address r m place = valueAt place (called (step (saveRead address) []) [] r m)
+
+abbrev pub writes : ℕ → ℕ → List ℕ → List ℕ → ℕ × List ℕ × List ℕ
+writes address value r m = plain (called (step (saveWrite address value) []) [] r m)
+
+abbrev pub announces : ℕ → List ℕ → List ℕ → ℕ × List ℕ × List ℕ
+announces words r m = plain (called (step (eepromBeginDma words) []) [] r m)
+
+abbrev pub takesBit : ℕ → List ℕ → List ℕ → ℕ × List ℕ × List ℕ
+takesBit value r m = plain (called (step (eepromWrite value) []) [] r m)
+
+abbrev pub givesBit : List ℕ → List ℕ → ℕ → ℕ × List ℕ × List ℕ × ℕ
+givesBit r m place = valueAt place (called (step eepromRead []) [] r m)
+
+abbrev pub loads : List ℕ → List ℕ → List ℕ → ℕ × List ℕ × List ℕ
+loads file r m = plain (called (step (loadSave file) []) [] r m)
+
+abbrev pub exports : List ℕ → List ℕ → List ℕ → ℕ → ℕ × List ℕ × List ℕ × List ℕ × ℕ
+exports d r m place = exportAt place (called (step saveData d) d r m)
+
+abbrev pub imports : List ℕ → List ℕ → List ℕ → ℕ → ℕ × List ℕ × List ℕ × ℕ
+imports file r m place = valueAt place (called (importSave file) [] r m)
+
+abbrev pub givesState : List ℕ → List ℕ → List ℕ → ℕ × List ℕ × List ℕ × List ℕ
+givesState r m place = stateAt place (called (step chipState []) [] r m)
+
+abbrev pub restores : List ℕ → List ℕ → List ℕ → ℕ × List ℕ × List ℕ
+restores bytes r m = plain (called (restore bytes) [] r m)
+
+abbrev pub takesFlag : List ℕ → List ℕ → ℕ → ℕ × List ℕ × List ℕ × ℕ
+takesFlag r m place = flagAt place (called (step takeSaveDirty []) [] r m)
+
+abbrev pub tellsEeprom : List ℕ → ℕ → ℕ × ℕ
+tellsEeprom r place = askedAt usesEepromOf r place
+
+abbrev pub tellsWindow : List ℕ → ℕ → ℕ × ℕ
+tellsWindow r place = askedAt eepromWindowStart r place

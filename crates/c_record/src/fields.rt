@@ -1,0 +1,52 @@
+// What a call needs of a record's bytes.
+use crate::layout::BANK;
+use crate::layout::CHIP;
+use crate::layout::FLASH_STATE;
+use crate::layout::ID_MODE;
+use crate::layout::KIND;
+use crate::layout::RecordBytes;
+use cart::chip_of;
+use eeprom::Eeprom;
+use flash::Flash;
+use kind::SaveType;
+use kind::kind_of;
+use lists::low32;
+ghost use mathlib.Core.Path.{_≡_};
+ghost use lib.ListN.{length};
+ghost use Rattle.c_record.specs.RecordBytes.{cartOf};
+
+pub fn len_in(cart: &RecordBytes) -> usize
+    ensures { λ n. ⌜ n ≡ cartOf (now (cart .entry)) .len ⌝ }
+{
+    low32(cart[0], cart[1], cart[2], cart[3]) as usize
+}
+
+pub fn kind_in(cart: &RecordBytes) -> SaveType
+    ensures { λ k. ⌜ k ≡ cartOf (now (cart .entry)) .kind ⌝ }
+{
+    kind_of(cart[KIND])
+}
+
+pub fn flash_in(cart: &RecordBytes) -> Flash
+    ensures { λ f. ⌜ f ≡ cartOf (now (cart .entry)) .chip .flash ⌝ }
+{
+    Flash {
+        state: cart[FLASH_STATE],
+        bank: cart[BANK],
+        id: cart[ID_MODE] == 1,
+    }
+}
+
+fn eeprom_of(bytes: &[u8]) -> Eeprom
+    requires { ⌜ length (now bytes) ≡ 24 ⌝ }
+    ensures { λ e. ⌜ e ≡ cartOf (now (bytes .entry)) .chip .eeprom ⌝ }
+{
+    let chip = chip_of(&bytes[CHIP..]);
+    chip.eeprom
+}
+
+pub fn eeprom_in(cart: &RecordBytes) -> Eeprom
+    ensures { λ e. ⌜ e ≡ cartOf (now (cart .entry)) .chip .eeprom ⌝ }
+{
+    eeprom_of(&cart[..])
+}

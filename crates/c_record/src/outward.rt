@@ -1,0 +1,166 @@
+// What a call changes of a record's bytes, and nothing else: a record that is written whole costs more than most calls.
+use crate::layout::ACC;
+use crate::layout::BANK;
+use crate::layout::BLOCK;
+use crate::layout::COUNT;
+use crate::layout::DIRTY;
+use crate::layout::FLASH_STATE;
+use crate::layout::ID_MODE;
+use crate::layout::LARGE;
+use crate::layout::PHASE;
+use crate::layout::PLACE;
+use crate::layout::RecordBytes;
+use crate::layout::WIDTH;
+use cart::Cartridge;
+use cart::bit;
+use cart::chip_bytes;
+use cart::phase_number;
+use eeprom::Eeprom;
+use flash::Flash;
+use kind::kind_number;
+ghost use mathlib.Core.Path.{_≡_};
+ghost use mathlib.Core.Bool.{cond};
+ghost use Prim.Native.Nat.{_<_};
+ghost use lib.ListN.{getD, set};
+ghost use Rattle.cart.specs.ChipState.{bit as bit·spec};
+ghost use Rattle.c_record.specs.RecordBytes.{recordBytes};
+ghost use Rattle.c_record.specs.Fields.{idAt, largeAt, withFlash, withId, withWidth, withLarge};
+ghost use Rattle.c_record.specs.Fields.{withAcc, withShift, withPlace, withSerial};
+
+fn flag_after(sets: bool, flag: u8) -> u8
+    ensures { λ r. ⌜ r ≡ cond sets 1 flag ⌝ }
+{
+    if sets {
+        return 1;
+    }
+    flag
+}
+
+// The flash chip but for its ID mode, and the flag. Stored also where they stay: tests in front of the stores cost more.
+pub fn put_flash(cart: &mut RecordBytes, sets: bool, flash: Flash)
+    ensures { λ _. ⌜ now (cart .exit) ≡ withFlash (now (cart .entry)) sets flash ⌝ }
+{
+    let flag = cart[DIRTY];
+    cart[FLASH_STATE] = flash.state;
+    cart[BANK] = flash.bank;
+    cart[DIRTY] = flag_after(sets, flag);
+}
+
+// A flag byte that is stored only where it changes: a store would delay the next call's wide load of it.
+fn put_bit(cart: &mut RecordBytes, at: usize, was: bool, is: bool)
+    requires { ⌜ (at < 24) × (getD (now cart) at 0 ≡ bit·spec was) ⌝ }
+    ensures { λ _. ⌜ now (cart .exit) ≡ set (now (cart .entry)) at (bit·spec is) ⌝ }
+{
+    if was {
+        if is {
+            return;
+        }
+        cart[at] = 0;
+        return;
+    }
+    if !is {
+        return;
+    }
+    cart[at] = 1;
+}
+
+pub fn put_id(cart: &mut RecordBytes, was: bool, id: bool)
+    requires { ⌜ getD (now cart) idAt 0 ≡ bit·spec was ⌝ }
+    ensures { λ _. ⌜ now (cart .exit) ≡ withId (now (cart .entry)) id ⌝ }
+{
+    put_bit(cart, ID_MODE, was, id);
+}
+
+pub fn put_large(cart: &mut RecordBytes, was: bool, large: bool)
+    requires { ⌜ getD (now cart) largeAt 0 ≡ bit·spec was ⌝ }
+    ensures { λ _. ⌜ now (cart .exit) ≡ withLarge (now (cart .entry)) large ⌝ }
+{
+    put_bit(cart, LARGE, was, large);
+}
+
+// What a DMA announcement tells.
+pub fn put_width(cart: &mut RecordBytes, width: u8, large: bool)
+    ensures { λ _. ⌜ now (cart .exit) ≡ withWidth (now (cart .entry)) width large ⌝ }
+{
+    cart[WIDTH] = width;
+    cart[LARGE] = bit(large);
+}
+
+fn put_acc(cart: &mut RecordBytes, acc: u64)
+    ensures { λ _. ⌜ now (cart .exit) ≡ withAcc (now (cart .entry)) acc ⌝ }
+{
+    cart[ACC] = (acc % 256) as u8;
+    cart[ACC + 1] = ((acc >> 8) % 256) as u8;
+    cart[ACC + 2] = ((acc >> 16) % 256) as u8;
+    cart[ACC + 3] = ((acc >> 24) % 256) as u8;
+    cart[ACC + 4] = ((acc >> 32) % 256) as u8;
+    cart[ACC + 5] = ((acc >> 40) % 256) as u8;
+    cart[ACC + 6] = ((acc >> 48) % 256) as u8;
+    cart[ACC + 7] = ((acc >> 56) % 256) as u8;
+}
+
+// A bit shifted in that more follow.
+pub fn put_shift(cart: &mut RecordBytes, count: u8, acc: u64)
+    ensures { λ _. ⌜ now (cart .exit) ≡ withShift (now (cart .entry)) count acc ⌝ }
+{
+    cart[COUNT] = count;
+    put_acc(cart, acc);
+}
+
+// A bit drawn that more follow.
+pub fn put_place(cart: &mut RecordBytes, place: u8)
+    ensures { λ _. ⌜ now (cart .exit) ≡ withPlace (now (cart .entry)) place ⌝ }
+{
+    cart[PLACE] = place;
+}
+
+// The EEPROM after a bit that ends a phase, and the flag.
+pub fn put_eeprom(cart: &mut RecordBytes, sets: bool, e: Eeprom)
+    ensures { λ _. ⌜ now (cart .exit) ≡ withSerial (now (cart .entry)) sets e ⌝ }
+{
+    let phase = e.phase;
+    let flag = cart[DIRTY];
+    cart[WIDTH] = e.width;
+    cart[LARGE] = bit(e.large);
+    cart[PHASE] = phase_number(phase);
+    cart[COUNT] = e.count;
+    cart[BLOCK] = (e.block % 256) as u8;
+    cart[BLOCK + 1] = (e.block / 256) as u8;
+    cart[PLACE] = e.place;
+    put_acc(cart, e.acc);
+    cart[DIRTY] = flag_after(sets, flag);
+}
+
+pub fn record_bytes(cart: Cartridge) -> RecordBytes
+    ensures { λ r. ⌜ r ≡ recordBytes cart ⌝ }
+{
+    let kind = cart.kind;
+    let chip = cart.chip;
+    let b = chip_bytes(chip);
+    [
+        (cart.len % 256) as u8,
+        (cart.len / 256 % 256) as u8,
+        (cart.len / 65536 % 256) as u8,
+        (cart.len / 16777216 % 256) as u8,
+        kind_number(kind) as u8,
+        bit(cart.dirty),
+        b[0],
+        b[1],
+        b[2],
+        b[3],
+        b[4],
+        b[5],
+        b[6],
+        b[7],
+        b[8],
+        b[9],
+        b[10],
+        b[11],
+        b[12],
+        b[13],
+        b[14],
+        b[15],
+        b[16],
+        b[17],
+    ]
+}
