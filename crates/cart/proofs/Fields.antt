@@ -79,6 +79,7 @@ acc-value b n =
 
 -- what an allowed record's fields are below
 pub record Bounds (c : ChipRecord) : Type 0 where
+  pub limitOk : c .eeprom .count < countLimit (c .eeprom .phase) (wOf (c .eeprom))
   pub countOk : c .eeprom .count < 64
   pub blockOk : c .eeprom .block < 1024
   pub placeOk : c .eeprom .place < 68
@@ -97,10 +98,10 @@ allowed-bounds c h =
     let y3 = and-right b (w && (k && (p && l))) (and-right s (b && (w && (k && (p && l)))) y) in
     let y4 = and-right w (k && (p && l)) y3 in
     let y5 = and-right k (p && l) y4 in
+    let m = ltb-true (e .count) (countLimit (e .phase) (wOf e)) (and-right p l y5) in
     record {
-      countOk =
-          limit-64 (e .phase) (wOf e) (e .count) (w-le (e .width) (e .large) (and-left w (k && (p && l)) y3))
-          (ltb-true (e .count) (countLimit (e .phase) (wOf e)) (and-right p l y5));
+      limitOk = m;
+      countOk = limit-64 (e .phase) (wOf e) (e .count) (w-le (e .width) (e .large) (and-left w (k && (p && l)) y3)) m;
       blockOk = omega (arith, leb-true (e .block) 1023 (and-left k (p && l) y4));
       placeOk = omega (arith, leb-true (e .place) 67 (and-left p l y5));
     }

@@ -65,13 +65,14 @@ unfoldable pub writeSave : SaveType → State → ℕ → ℕ → State
 writeSave kind s a v = withFlash s (afterWrite kind (flashOf s) a v)
 
 -- Files (`load_save`): "memory FFh, then the file's first bytes; longer than 512 on EEPROM sets large; None ignores it. The flag stays."
-abbrev pub largeAfter : SaveType → Bool → List ℕ → Bool
-largeAfter kind large f = large || usesEeprom kind && ltb 512 (length f)
+abbrev pub largeAfter : SaveType → Bool → ℕ → Bool
+largeAfter kind large fileLength = large || usesEeprom kind && ltb 512 fileLength
 
 unfoldable pub load : State → List ℕ → State
 load s f =
     let e = s .cart .chip .eeprom in
-    withEeprom s (changed (told (e .width) (largeAfter (s .cart .kind) (e .large) f) e) File f false (eepromOf s))
+    let large = largeAfter (s .cart .kind) (e .large) (length f) in
+    withEeprom s (changed (told (e .width) large e) File f false (eepromOf s))
 
 -- (`save_data`): "the memory; EEPROM kinds the first 512 bytes unless large; None answers no file"
 abbrev pub eepromFile : State → List ℕ

@@ -18,7 +18,7 @@ use Rattle.memory.specs.Memory.{Held, stored}
 use Rattle.eeprom.specs.declared.EepromPhase.{EepromPhase}
 use Rattle.eeprom.specs.declared.EepromPhase.the-variants.{Opcode, ReadAddress, WriteAddress, WriteData, ReadStop, WriteStop, Reading}
 use Rattle.eeprom.specs.declared.Eeprom.{Eeprom}
-use Rattle.eeprom.specs.Eeprom.{w as widthOf, wOf, tells6, tells14, beginDma, serial, shiftIn, opcodePhase, opcodeBit, addressBit, dataBit, writeBitIn, writeBit, bitIn, bitOfBlock, readBit, afterRead}
+use Rattle.eeprom.specs.Eeprom.{w as widthOf, wOf, tells6, tells14, beginDma, serial, shiftIn, opcodePhase, opcodeBit, turned, writeBit, bitIn, bitOfBlock, readBit, afterRead}
 use Rattle.eeprom.specs.Gbatek.{bits, setAddress, writeBlock, bitsOfBytes, readOut, fed, drawn, drained, Idle, held, Width, six, fourteen, blockOf, Commands, Abandons}
 
 fed-append : (xs ys : List ℕ) (x : Held Eeprom) → fed (xs ++ ys) x ≡ fed ys (fed xs x)
@@ -46,7 +46,7 @@ module _ (e : Eeprom) where
 
   more : {p : EepromPhase} {z : ℕ} → Taking (wOf e) p z → (n k r a : ℕ) (m : List ℕ) (d : Bool) (v : ℕ) → n + 1 ≢ z
       → bitIn (at p n k r a m d) v ≡ at p (n + 1) k r ((2 * a + v % 2) % 2 ^ 64) m d
-  unfolding bitIn writeBit opcodeBit addressBit dataBit shiftIn stored
+  unfolding bitIn writeBit turned shiftIn stored
   more opcode n k r a m d v h = rw (ne-eqb (n + 1) 2 h)
   more readAt n k r a m d v h = rw (ne-eqb (n + 1) (wOf e) h)
   more writeAt n k r a m d v h = rw (ne-eqb (n + 1) (wOf e) h)
@@ -54,7 +54,7 @@ module _ (e : Eeprom) where
 
   last : {p : EepromPhase} {z : ℕ} (t : Taking (wOf e) p z) (n k r a : ℕ) (m : List ℕ) (d : Bool) (v : ℕ) → n + 1 ≡ z
       → bitIn (at p n k r a m d) v ≡ full t k r ((2 * a + v % 2) % 2 ^ 64) m d
-  unfolding bitIn writeBit opcodeBit addressBit dataBit shiftIn stored
+  unfolding bitIn writeBit turned shiftIn stored
   last opcode n k r a m d v h = rw (eq-eqb (n + 1) 2 h)
   last readAt n k r a m d v h = rw (eq-eqb (n + 1) (wOf e) h)
   last writeAt n k r a m d v h = rw (eq-eqb (n + 1) (wOf e) h)
@@ -90,7 +90,7 @@ module _ (e : Eeprom) where
 
   whole-write : (block y k r : ℕ) (m : List ℕ) (d : Bool) → 0 < wOf e → wOf e ≤ 64 → block < 2 ^ wOf e → y < 2 ^ 64
       → fed (writeBlock (wOf e) block y) (at Opcode 0 k r 0 m d) ≡ at Opcode 0 (block % 1024) r 0 (withPart m (8 * (block % 1024)) (digits 256 8 y)) true
-  unfolding writeBlock fed bitIn writeBit stored
+  unfolding writeBlock fed bitIn writeBit turned stored
   whole-write block y k r m d h0 h hb hy =
       fed-append (1 ∷ 0 ∷ []) (bits (wOf e) block ++ (bits 64 y ++ (0 ∷ []))) (at Opcode 0 k r 0 m d)
       ∙ ap (fed (bits (wOf e) block ++ (bits 64 y ++ (0 ∷ [])))) (opens-write k r m d)
@@ -101,7 +101,7 @@ module _ (e : Eeprom) where
 
   whole-address : (block k r : ℕ) (m : List ℕ) (d : Bool) → 0 < wOf e → wOf e ≤ 64 → block < 2 ^ wOf e
       → fed (setAddress (wOf e) block) (at Opcode 0 k r 0 m d) ≡ at Reading 0 (block % 1024) 0 0 m d
-  unfolding setAddress fed bitIn writeBit stored
+  unfolding setAddress fed bitIn writeBit turned stored
   whole-address block k r m d h0 h hb =
       fed-append (1 ∷ 1 ∷ []) (bits (wOf e) block ++ (0 ∷ [])) (at Opcode 0 k r 0 m d)
       ∙ ap (fed (bits (wOf e) block ++ (0 ∷ []))) (opens-read k r m d)
@@ -170,5 +170,5 @@ commands w x e i =
     }
 
 pub abandons : (e : Eeprom) → e .phase ≡ Reading → Abandons e
-unfolding writeBit
-abandons e p = record { begins = λ b. ap (λ (q : EepromPhase). writeBitIn q e b) p }
+unfolding opcodeBit turned writeBit
+abandons e p = record { begins = λ b. rw p }

@@ -1,3 +1,4 @@
+pub mod Turns
 pub mod Sound
 pub mod Bits
 pub mod Commands

@@ -15,9 +15,11 @@ use Rattle.eeprom.specs.declared.EepromPhase.{EepromPhase}
 use Rattle.eeprom.specs.declared.EepromPhase.the-variants.{Opcode, ReadAddress, WriteAddress, WriteData, ReadStop, WriteStop, Reading}
 use Rattle.eeprom.specs.declared.Eeprom.{Eeprom}
 use Rattle.eeprom.specs.declared.EepromStep.{EepromStep}
+use Rattle.eeprom.specs.declared.Drawn.{Drawn}
 use Rattle.eeprom.specs.declared.Shifted.{Shifted}
 use Rattle.eeprom.specs.declared.Shifted.the-variants.{More, Full}
-use Rattle.eeprom.specs.Eeprom.{widthAllowed, w, wOf, countLimit, told, tells6, tells14, beginDma, isAddress, dmaQuestion, serial, kept, shiftIn, shifted, opcodePhase, opcodeBit, addressBit, dataBit, ended, writeBitIn, writeBit, isReading, afterRead}
+use Rattle.eeprom.specs.Eeprom.{widthAllowed, w, wOf, countLimit, told, tells6, tells14, beginDma, isAddress, dmaQuestion, isReading, serial, kept, shiftIn, shifted, opcodePhase, opcodeBit, addressed, ended, turnedIn, turned, writeBit, drawnFrom, afterRead}
+use Rattle.eeprom.proofs.Turns.{by-turn}
 
 -- phase, count, block, read place and acc of a chip whose address has w bits. Of acc only the bits shifted in are there, and a chip
 -- that is not large has seen addresses of 6 bits alone, so its block is below 64.
@@ -109,75 +111,52 @@ pub data Way (e : Eeprom) : EepromStep → Type 0 where
   word : {p : EepromPhase} {n k r a : ℕ} (d : ℕ) → Serial (wOf e) (e .large) p n k r a
       → Way e (record { eeprom = serial e p n k r a; store = Block (e .block) d })
 
-collect : (e : Eeprom) (z : ℕ) (whole : ℕ → EepromStep) {t : Shifted} → Sound e → countLimit (e .phase) (wOf e) ≡ z
-    → ((x : ℕ) → x < 2 ^ z → Way e (whole x)) → Shift z (e .count) t → Way e (shifted e whole t)
-collect e z whole s q f (more h k) =
+collect : (e : Eeprom) (whole : ℕ → EepromStep) {t : Shifted} → Sound e → ((x : ℕ) → x < 2 ^ countLimit (e .phase) (wOf e) → Way e (whole x))
+    → Shift (countLimit (e .phase) (wOf e)) (e .count) t → Way e (shifted e whole t)
+collect e whole s f (more h k) =
     let o = s .serialOk in
-    let l : e .count + 1 < countLimit (e .phase) (wOf e) = rw q h in
-    keeps (record { countOk = l; blockOk = o .blockOk; placeOk = o .placeOk; accOk = k })
-collect e z whole s q f (full {x} h) = f x h
-
-counted : (e : Eeprom) (z : ℕ) → Sound e → countLimit (e .phase) (wOf e) ≡ z → e .count < z
-counted e z s q = rw q at (s .serialOk .countOk)
+    keeps (record { countOk = h; blockOk = o .blockOk; placeOk = o .placeOk; accOk = k })
+collect e whole s f (full {x} h) = f x h
 
 -- the whole address is a block of the chip
 block-lt : (l : Bool) (n x : ℕ) → n ≤ cond l 14 6 → x < 2 ^ n → x % 1024 < cond l 1024 64
 block-lt true n x h k = mod-lt x {m = 1024} (omega arith)
 block-lt false n x h k = omega (arith, pow-mono h, mod-le x 1024)
 
-opcode-way : (e : Eeprom) (b : ℕ) → Sound e → b < 2 → countLimit (e .phase) (wOf e) ≡ 2 → Way e (opcodeBit e b)
-unfolding opcodeBit
-opcode-way e b s h q =
-    let o = s .serialOk in
-    collect e 2 (λ x. kept (serial e (opcodePhase x) 0 (e .block) (e .place) 0)) s q
-    (λ x k. keeps (begun e (opcodePhase x) (e .block) (e .place) s (o .blockOk) (o .placeOk)))
-    (shift (e .acc) (e .count) 2 b h (counted e 2 s q) (o .accOk))
+address-way : (next : EepromPhase) (e : Eeprom) (x : ℕ) → Sound e → x < 2 ^ wOf e → Way e (addressed next e x)
+address-way next e x s k =
+    keeps (begun e next (x % 1024) (e .place) s (block-lt (e .large) (wOf e) x (w-in e s .1) k) (s .serialOk .placeOk))
 
-address-way : (next : EepromPhase) (e : Eeprom) (b : ℕ) → Sound e → b < 2 → countLimit (e .phase) (wOf e) ≡ wOf e → Way e (addressBit next e b)
-unfolding addressBit
-address-way next e b s h q =
-    let o = s .serialOk in
-    collect e (wOf e) (λ x. kept (serial e next 0 (x % 1024) (e .place) 0)) s q
-    (λ x k. keeps (begun e next (x % 1024) (e .place) s (block-lt (e .large) (wOf e) x (w-in e s .1) k) (o .placeOk)))
-    (shift (e .acc) (e .count) (wOf e) b h (counted e (wOf e) s q) (o .accOk))
-
-data-way : (e : Eeprom) (b : ℕ) → Sound e → b < 2 → countLimit (e .phase) (wOf e) ≡ 64 → Way e (dataBit e b)
-unfolding dataBit
-data-way e b s h q =
-    collect e 64 (λ x. record { eeprom = serial e WriteStop 0 (e .block) (e .place) 0; store = Block (e .block) x }) s q
-    (λ x k. word x (begun e WriteStop (e .block) (e .place) s (s .serialOk .blockOk) (s .serialOk .placeOk)))
-    (shift (e .acc) (e .count) 64 b h (counted e 64 s q) (s .serialOk .accOk))
-
--- the chip at the end of a read, and its ways are those of the chip itself
 sound-serial : (e : Eeprom) {p : EepromPhase} {n k r a : ℕ} → Sound e → Serial (wOf e) (e .large) p n k r a → Sound (serial e p n k r a)
 sound-serial e s o = record { widthOk = s .widthOk; widthSmall = s .widthSmall; serialOk = o }
 
 pub sound-ended : (e : Eeprom) → Sound e → Sound (ended e)
 sound-ended e s = sound-serial e s (begun e Opcode (e .block) 0 s (s .serialOk .blockOk) (omega arith))
 
+-- the bit that abandons a read is the first of an opcode
 end-way : (e : Eeprom) (b : ℕ) → Sound e → b < 2 → Way e (opcodeBit (ended e) b)
-unfolding opcodeBit
+unfolding opcodeBit shiftIn
 end-way e b s h =
-    again (opcode-way (ended e) b (sound-ended e s) h refl)
-  where
-    again : {t : EepromStep} → Way (ended e) t → Way e t
-    again (keeps x) = keeps x
-    again (word d x) = word d x
+    keeps {p = Opcode} {n = 1} {r = 0} (record { countOk = omega arith; blockOk = s .serialOk .blockOk; placeOk = omega arith; accOk = shift-lt 0 b 0 h (omega arith) })
 
-way-in : (p : EepromPhase) (e : Eeprom) (b : ℕ) → e .phase ≡ p → Sound e → b < 2 → Way e (writeBitIn p e b)
-way-in Opcode e b q s h = opcode-way e b s h (rw q)
-way-in ReadAddress e b q s h = address-way ReadStop e b s h (rw q)
-way-in WriteAddress e b q s h = address-way WriteData e b s h (rw q)
-way-in WriteData e b q s h = data-way e b s h (rw q)
-way-in ReadStop e b q s h =
+turn-way : (p : EepromPhase) (e : Eeprom) (x b : ℕ) → e .phase ≡ p → Sound e → b < 2 → x < 2 ^ countLimit p (wOf e) → Way e (turnedIn p e x b)
+turn-way Opcode e x b q s h k = keeps (begun e (opcodePhase x) (e .block) (e .place) s (s .serialOk .blockOk) (s .serialOk .placeOk))
+turn-way ReadAddress e x b q s h k = address-way ReadStop e x s k
+turn-way WriteAddress e x b q s h k = address-way WriteData e x s k
+turn-way WriteData e x b q s h k = word x (begun e WriteStop (e .block) (e .place) s (s .serialOk .blockOk) (s .serialOk .placeOk))
+turn-way ReadStop e x b q s h k =
     let o = s .serialOk in
     keeps {r = 0} (record { countOk = rw q at (o .countOk); blockOk = o .blockOk; placeOk = omega arith; accOk = o .accOk })
-way-in WriteStop e b q s h = keeps (begun e Opcode (e .block) (e .place) s (s .serialOk .blockOk) (s .serialOk .placeOk))
-way-in Reading e b q s h = end-way e b s h
+turn-way WriteStop e x b q s h k = keeps (begun e Opcode (e .block) (e .place) s (s .serialOk .blockOk) (s .serialOk .placeOk))
+turn-way Reading e x b q s h k = end-way e b s h
 
 pub way : (e : Eeprom) (b : ℕ) → Sound e → b < 2 → Way e (writeBit e b)
-unfolding writeBit
-way e b s h = way-in (e .phase) e b refl s h
+unfolding turned
+way e b s h =
+    let o = s .serialOk in
+    subst (Way e) (by-turn e b (o .countOk))
+    (collect e (λ x. turned e x b) s (λ x k. turn-way (e .phase) e x b refl s h k)
+    (shift (e .acc) (e .count) (countLimit (e .phase) (wOf e)) b h (o .countOk) (o .accOk)))
 
 pub sound-way : {e : Eeprom} {t : EepromStep} → Sound e → Way e t → Sound (t .eeprom)
 sound-way {e} s (keeps o) = sound-serial e s o
@@ -188,8 +167,9 @@ pub sound-read : (e : Eeprom) → Sound e → Sound (afterRead e)
 unfolding afterRead
 sound-read e s =
     let o = s .serialOk in
-    either Sound (isReading (e .phase))
-    (split Sound (eqb (e .place) 67) (λ t. sound-ended e s)
+    let P : Drawn → Type 0 = λ d. Sound (drawnFrom e d) in
+    either P (isReading (e .phase))
+    (split P (eqb (e .place) 67) (λ t. sound-ended e s)
     (λ t.
     let q : e .place ≢ 67 = eqb-false (e .place) 67 t in
     let r = o .placeOk in
@@ -236,11 +216,15 @@ least-6 : (l : Bool) → 6 ≤ cond l 14 6
 least-6 true = omega arith
 least-6 false = omega arith
 
+-- where 6 is told, question 5 asks the rest
+asked : (x y z : Bool) → x ≡ true → not x || y || z ≡ true → y || z ≡ true
+asked x y z q h = rw q at h
+
 pub sound-dma : (words : ℕ) (e : Eeprom) → Sound e → dmaQuestion words e .yes ≡ true → Sound (beginDma words e)
 unfolding beginDma dmaQuestion widthAllowed w
 sound-dma words e s h =
     split Sound (tells6 words)
-    (λ t. sound-told e 6 (e .large) s (λ q. q) refl (least-6 (e .large)) (told-count (e .phase) (wOf e) (e .count) (rw t at h) (s .serialOk .countOk)))
+    (λ t. sound-told e 6 (e .large) s (λ q. q) refl (least-6 (e .large)) (told-count (e .phase) (wOf e) (e .count) (asked (tells6 words) (not (isAddress (e .phase))) (ltb (e .count) 6) t h) (s .serialOk .countOk)))
     (λ t. either Sound (tells14 words)
     (sound-told e 14 true s (λ q. refl) refl (omega arith) (limit-mono (e .phase) (wOf e) 14 (e .count) (w-14 e s) (s .serialOk .countOk)))
     s)

@@ -2,13 +2,21 @@
 
 mod input;
 mod output;
+mod phases;
 
+pub use input::shift;
+pub use input::turn;
 pub use input::write_bit;
 use memory::Store;
 pub use output::after_read;
+pub use output::draw;
 pub use output::read_bit;
+pub use phases::count_limit;
+use phases::is_address;
 ghost use mathlib.Core.Path.{_≡_};
-ghost use Rattle.eeprom.specs.Eeprom.{widthAllowed, w as w·spec, countLimit, told as told·spec, tells6 as tells6·spec, tells14 as tells14·spec, beginDma, isAddress, dmaQuestion, serial as serial·spec, ended as ended·spec};
+ghost use Rattle.eeprom.specs.Eeprom.{widthAllowed, w as w·spec, told as told·spec, tells6 as tells6·spec};
+ghost use Rattle.eeprom.specs.Eeprom.{tells14 as tells14·spec, beginDma, dmaQuestion};
+ghost use Rattle.eeprom.specs.Eeprom.{serial as serial·spec, ended as ended·spec};
 
 pub enum EepromPhase {
     Opcode,
@@ -44,6 +52,13 @@ pub struct EepromStep {
     pub store: Store,
 }
 
+// What a bit out changes: nothing, the read place, or the read is over.
+pub enum Drawn {
+    Nothing,
+    Place(u8),
+    Ended,
+}
+
 pub fn width_allowed(width: u8) -> bool
     ensures { λ r. ⌜ r ≡ widthAllowed width ⌝ }
 {
@@ -63,21 +78,6 @@ pub fn w(width: u8, large: bool) -> u8
         return width;
     }
     if large { 14 } else { 6 }
-}
-
-// Below which number the count of a phase stays.
-pub fn count_limit(phase: EepromPhase, w: u8) -> u8
-    ensures { λ r. ⌜ r ≡ countLimit phase w ⌝ }
-{
-    match phase {
-        EepromPhase::Opcode => 2,
-        EepromPhase::ReadAddress => w,
-        EepromPhase::WriteAddress => w,
-        EepromPhase::WriteData => 64,
-        EepromPhase::ReadStop => 1,
-        EepromPhase::WriteStop => 1,
-        EepromPhase::Reading => 1,
-    }
 }
 
 pub fn told(width: u8, large: bool, e: Eeprom) -> Eeprom
@@ -117,20 +117,6 @@ pub fn begin_dma(words: usize, e: Eeprom) -> Eeprom
         return told(14, true, e);
     }
     e
-}
-
-fn is_address(phase: EepromPhase) -> bool
-    ensures { λ r. ⌜ r ≡ isAddress phase ⌝ }
-{
-    match phase {
-        EepromPhase::ReadAddress => true,
-        EepromPhase::WriteAddress => true,
-        EepromPhase::Opcode => false,
-        EepromPhase::WriteData => false,
-        EepromPhase::ReadStop => false,
-        EepromPhase::WriteStop => false,
-        EepromPhase::Reading => false,
-    }
 }
 
 // Question 5.

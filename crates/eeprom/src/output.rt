@@ -1,27 +1,15 @@
 // Serial bits out.
+use crate::Drawn;
 use crate::Eeprom;
 use crate::EepromPhase;
 use crate::ended;
+use crate::phases::is_reading;
 use crate::serial;
 ghost use mathlib.Core.Path.{_≡_};
 ghost use mathlib.Core.Bool.{true};
 ghost use Prim.Native.Nat.{_+_, _*_, _<_, _≤_};
 ghost use lib.ListN.{length};
-ghost use Rattle.eeprom.specs.Eeprom.{isReading, bitOfBlock, readBit, afterRead};
-
-fn is_reading(phase: EepromPhase) -> bool
-    ensures { λ r. ⌜ r ≡ isReading phase ⌝ }
-{
-    match phase {
-        EepromPhase::Reading => true,
-        EepromPhase::Opcode => false,
-        EepromPhase::ReadAddress => false,
-        EepromPhase::WriteAddress => false,
-        EepromPhase::WriteData => false,
-        EepromPhase::ReadStop => false,
-        EepromPhase::WriteStop => false,
-    }
-}
+ghost use Rattle.eeprom.specs.Eeprom.{bitOfBlock, readBit, drawnBy, afterRead};
 
 // Bit i of a block, highest bit of the first byte first.
 fn bit_of_block(memory: &[u8], block: usize, i: usize) -> u8
@@ -50,16 +38,29 @@ pub fn read_bit(present: bool, e: Eeprom, memory: &[u8]) -> u8
     bit_of_block(memory, e.block as usize, e.place as usize - 4)
 }
 
+// What a bit out changes of the chip.
+pub fn draw(phase: EepromPhase, place: u8) -> Drawn
+    requires { ⌜ place < 68 ⌝ }
+    ensures { λ r. ⌜ r ≡ drawnBy phase place ⌝ }
+{
+    if !is_reading(phase) {
+        return Drawn::Nothing;
+    }
+    if place == 67 {
+        return Drawn::Ended;
+    }
+    Drawn::Place(place + 1)
+}
+
 pub fn after_read(e: Eeprom) -> Eeprom
     requires { ⌜ e .place < 68 ⌝ }
     ensures { λ r. ⌜ r ≡ afterRead e ⌝ }
 {
     let phase = e.phase;
-    if !is_reading(phase) {
-        return e;
+    let d = draw(phase, e.place);
+    match d {
+        Drawn::Nothing => e,
+        Drawn::Place(place) => serial(e, phase, e.count, e.block, place, e.acc),
+        Drawn::Ended => ended(e),
     }
-    if e.place == 67 {
-        return ended(e);
-    }
-    serial(e, phase, e.count, e.block, e.place + 1, e.acc)
 }

@@ -1,25 +1,22 @@
 -- The file that an export gives, by the kind. Assumes nothing.
 use mathlib.Core.Path.{_≡_, refl, sym, ap}
-use mathlib.Core.Bool.{Bool, true, false, _||_, _&&_}
+use mathlib.Core.Bool.{Bool, true, false}
 use mathlib.Core.List.{List}
 use Prim.Native.Nat.{ℕ, _≤_}
 use native.Mathlib.Omega.{arith}
-use lib.Dec.{leb, ltb}
+use lib.Dec.{leb}
 use lib.ListN.{length, take}
 use lib.Seq.{take-all, length-take-le}
 use borrow.Author.Tests.{le-leb}
 use Rattle.lists.specs.Lists.{into}
-use Rattle.memory.specs.Memory.{filled}
 use Rattle.kind.specs.declared.SaveType.{SaveType}
 use Rattle.kind.specs.declared.SaveType.the-variants.{None, Sram, Flash64, Flash128, Eeprom512, Eeprom8k}
 use Rattle.kind.proofs.Sizes.{memory-small}
-use Rattle.kind.specs.Kind.{memorySize, usesEeprom}
-use Rattle.eeprom.specs.Eeprom.{told}
-use Rattle.cart.specs.declared.Cartridge.{Cartridge}
+use Rattle.kind.specs.Kind.{memorySize}
 use Rattle.cart.specs.declared.Reply.{Reply}
 use Rattle.cart.specs.Record.{State}
-use Rattle.cart.specs.Calls.{load, fileOf, holds, exported}
-use Rattle.cart.specs.Replies.{state, chipRecord, cartWith, done, exportReplied}
+use Rattle.cart.specs.Calls.{fileOf, holds, exported}
+use Rattle.cart.specs.Replies.{done, exportReplied}
 use Rattle.file_calls.specs.Files.{eepromLength, fileLength}
 
 eeprom-le : (large : Bool) → eepromLength large ≤ 8192
@@ -80,12 +77,3 @@ module _ (s : State) (d : List ℕ) where
   exported-is Flash128 e = whole 131072 e
   exported-is Eeprom512 e = eeprom-part e
   exported-is Eeprom8k e = eeprom-part e
-
--- what a load leaves
-pub loaded : (c : Cartridge) (m f : List ℕ) (large : Bool) {r : Cartridge} {out : List ℕ} → length m ≡ memorySize (c .kind)
-    → large ≡ (c .chip .eeprom .large || usesEeprom (c .kind) && ltb 512 (length f))
-    → r ≡ cartWith c (c .dirty) (chipRecord (c .chip .flash) (told (c .chip .eeprom .width) large (c .chip .eeprom)))
-    → out ≡ filled (length m) f
-    → state r out ≡ load (state c m) f
-unfolding load
-loaded c m f large e l g h = rw (g, l, h, e)

@@ -1,11 +1,11 @@
--- How long the file is that `save_data` gives: 0 where there is none.
+-- The length of the file that `save_data` writes; 0 for kind None, which has no file.
 use mathlib.Core.Bool.{Bool, cond}
 use Prim.Native.Nat.{ℕ}
 use Rattle.kind.specs.declared.SaveType.{SaveType}
-use Rattle.kind.specs.Kind.{byKind}
+use Rattle.kind.specs.Kind.{memorySize, usesEeprom}
 
 abbrev pub eepromLength : Bool → ℕ
 eepromLength large = cond large 8192 512
 
 abbrev pub fileLength : SaveType → Bool → ℕ
-fileLength kind large = byKind kind 0 32768 65536 131072 (eepromLength large) (eepromLength large)
+fileLength kind large = cond (usesEeprom kind) (eepromLength large) (memorySize kind)

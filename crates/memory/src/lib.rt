@@ -10,6 +10,7 @@ use leaves::erase_sector;
 use leaves::put_block;
 use leaves::put_byte;
 ghost use mathlib.Core.Path.{_≡_};
+ghost use mathlib.Core.Bool.{_||_};
 ghost use lib.ListN.{length};
 ghost use Rattle.memory.specs.Memory.{stored, stores as stores·spec, Fits};
 
@@ -58,4 +59,14 @@ pub fn stores(store: Store) -> bool
         Store::Chip => true,
         Store::File => false,
     }
+}
+
+// The changed flag after a step; no step clears it.
+pub fn flag_after(sets: bool, dirty: bool) -> bool
+    ensures { λ r. ⌜ r ≡ (sets || dirty) ⌝ }
+{
+    if sets {
+        return true;
+    }
+    dirty
 }

@@ -1,4 +1,4 @@
-// `eeprom_begin_dma`, `eeprom_write` and `eeprom_read`: the serial calls.
+// `eeprom_begin_dma`, `eeprom_write` and `eeprom_read`: the serial calls by value.
 
 use cart::Cartridge;
 use cart::Reply;
@@ -13,8 +13,10 @@ use eeprom::dma_allowed;
 use eeprom::read_bit;
 use eeprom::write_bit;
 use kind::uses_eeprom;
+use memory::NO_FILE;
 use memory::apply;
-use memory::dirty_behind;
+use memory::flag_after;
+use memory::stores;
 ghost use mathlib.Core.Path.{_≡_};
 ghost use mathlib.Core.Bool.{true};
 ghost use mathlib.Core.List.{List, []};
@@ -26,7 +28,7 @@ ghost use Rattle.cart.specs.Record.{recordAllowed};
 ghost use Rattle.cart.specs.Calls.{eepromBeginDma, eepromWrite, eepromRead, eepromOf, withEeprom, step};
 ghost use Rattle.cart.specs.Replies.{state, replied};
 
-// Lent no memory: whichever one stands beside the record stays.
+// Takes no memory; the contract holds for any memory.
 pub fn eeprom_begin_dma(cart: Cartridge, words: usize) -> Reply
     ensures { λ r. ⌜ ((m : List ℕ) → (r, m) ≡ replied (step (eepromBeginDma words) [] (state cart m))) ⌝ }
 {
@@ -41,22 +43,26 @@ pub fn eeprom_begin_dma(cart: Cartridge, words: usize) -> Reply
     done(0, with_eeprom(cart, cart.dirty, begin_dma(words, e)))
 }
 
-// A bit in, all questions answered yes.
+// An accepted `eeprom_write`.
 fn bit_in(cart: Cartridge, memory: &mut [u8], value: u16) -> Cartridge
-    requires { ⌜ (recordAllowed cart ≡ true) × (usesEeprom (cart .kind) ≡ true) × (length (now memory) ≡ memorySize (cart .kind)) ⌝ }
-    ensures { λ r. ⌜ state r (now (memory .exit)) ≡ withEeprom (state cart (now (memory .entry))) (bitIn (eepromOf (state cart (now (memory .entry)))) value) ⌝ }
+    requires { ⌜ (recordAllowed cart ≡ true)
+        × (usesEeprom (cart .kind) ≡ true)
+        × (length (now memory) ≡ memorySize (cart .kind)) ⌝ }
+    ensures { λ r. ⌜ (let s = state cart (now (memory .entry)) in
+        state r (now (memory .exit)) ≡ withEeprom s (bitIn (eepromOf s) value)) ⌝ }
 {
     let chip = cart.chip;
     let e = chip.eeprom;
     let t = write_bit(e, (value % 2) as u64);
     let store = t.store;
     let next = t.eeprom;
-    apply(store, memory);
-    with_eeprom(cart, dirty_behind(store, cart.dirty), next)
+    apply(store, &NO_FILE, memory);
+    with_eeprom(cart, flag_after(stores(store), cart.dirty), next)
 }
 
 pub fn eeprom_write(cart: Cartridge, memory: &mut [u8], value: u16) -> Reply
-    ensures { λ r. ⌜ (r, now (memory .exit)) ≡ replied (step (eepromWrite value) [] (state cart (now (memory .entry)))) ⌝ }
+    ensures { λ r. ⌜ (r, now (memory .exit))
+        ≡ replied (step (eepromWrite value) [] (state cart (now (memory .entry)))) ⌝ }
 {
     let refusal = door(cart, memory.len());
     if refusal != 0 {

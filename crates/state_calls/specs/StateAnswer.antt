@@ -1,7 +1,8 @@
--- How `chip_state` returns what the machine answers: the number of a refusal and zeros, or 0 and the 18 bytes; the record stays.
+-- How `chip_state` returns the machine's answer: a refusal's number and zeros, or 0 and the bytes; the record stays.
 use mathlib.Core.List.{List, [], _∷_}
 use Prim.Native.Nat.{ℕ}
 use lib.ListN.{replicate}
+use Rattle.cart.specs.ChipState.{stateSize}
 use Rattle.cart.specs.Record.{State, Outcome}
 use Rattle.state_calls.specs.declared.StateAnswer.{StateAnswer}
 
@@ -9,7 +10,7 @@ abbrev pub stateAnswer : ℕ → List ℕ → StateAnswer
 stateAnswer refusal bytes = record { refusal = refusal; bytes = bytes }
 
 abbrev pub orZeros : List ℕ → List ℕ
-orZeros [] = replicate 18 0
+orZeros [] = replicate stateSize 0
 orZeros (b ∷ l) = b ∷ l
 
 abbrev pub stateAnswered : Outcome → StateAnswer × State

@@ -1,7 +1,9 @@
-// Opening, `chip_state`, restore, `take_save_dirty`, and what is asked of a record alone.
+// The calls by value on a whole record: opening, `chip_state`, restore, `take_save_dirty` and the EEPROM questions.
 
 use cart::Cartridge;
 use cart::Reply;
+use cart::STATE_SIZE;
+use cart::StateBytes;
 use cart::bit;
 use cart::cart_with;
 use cart::chip_bytes;
@@ -16,7 +18,9 @@ use image::image_length;
 use kind::SaveType;
 use kind::detect_save_type;
 use kind::memory_size;
-use memory::erase;
+use memory::NO_FILE;
+use memory::Store;
+use memory::apply;
 ghost use mathlib.Core.Path.{_≡_};
 ghost use mathlib.Core.List.{List, []};
 ghost use Prim.Native.Nat.{ℕ};
@@ -25,13 +29,13 @@ ghost use Rattle.cart.specs.Calls.{chipState, takeSaveDirty, step, restore, use
 ghost use Rattle.cart.specs.Replies.{state, replied, flagReplied};
 ghost use Rattle.state_calls.specs.StateAnswer.{stateAnswer, stateAnswered};
 
-// The number of a refusal or 0, and the 18 bytes, all 0 where they are refused.
+// The number of a refusal or 0, and the chip record's bytes, all 0 if refused.
 pub struct StateAnswer {
     pub refusal: u8,
-    pub bytes: [u8; 18],
+    pub bytes: StateBytes,
 }
 
-// A fresh cartridge of the image, its memory erased; where it is refused, one of kind None with all else 0.
+// Opens an image and erases its memory. A refused opening returns a record of kind None with all else 0.
 pub fn from_bytes(image: &[u8], memory: &mut [u8]) -> Reply
     ensures { λ r. ⌜ (r, now (memory .exit)) ≡ replied (fromBytes (now (image .entry)) (now (memory .entry))) ⌝ }
 {
@@ -42,11 +46,11 @@ pub fn from_bytes(image: &[u8], memory: &mut [u8]) -> Reply
     if memory.len() != memory_size(kind) {
         return refuse(3, fresh_cart(0, SaveType::None));
     }
-    erase(memory);
+    apply(Store::Chip, &NO_FILE, memory);
     done(0, fresh_cart(image.len(), kind))
 }
 
-fn state_answer(refusal: u8, bytes: [u8; 18]) -> StateAnswer
+fn state_answer(refusal: u8, bytes: StateBytes) -> StateAnswer
     ensures { λ r. ⌜ r ≡ stateAnswer refusal bytes ⌝ }
 {
     StateAnswer {
@@ -55,12 +59,12 @@ fn state_answer(refusal: u8, bytes: [u8; 18]) -> StateAnswer
     }
 }
 
-// These calls are lent no memory: whichever one stands beside the record stays.
+// The calls below take no memory; their contracts hold for any memory.
 pub fn chip_state(cart: Cartridge) -> StateAnswer
     ensures { λ r. ⌜ ((m : List ℕ) → (r, state cart m) ≡ stateAnswered (step chipState [] (state cart m))) ⌝ }
 {
     if !record_allowed(cart) {
-        return state_answer(2, [0; 18]);
+        return state_answer(2, [0; STATE_SIZE]);
     }
     let chip = cart.chip;
     state_answer(0, chip_bytes(chip))

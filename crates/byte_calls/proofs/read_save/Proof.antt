@@ -1,74 +1,12 @@
--- `byte_calls::read_save` meets its contract, kind by kind. Assumes nothing.
-use mathlib.Core.Path.{sym, ap, _∙_}
-use native.Mathlib.Omega.{arith}
-use Rattle.kind.specs.declared.SaveType.{SaveType}
-use Rattle.kind.specs.Kind.{memorySize}
+-- `byte_calls::read_save` meets its contract. Assumes nothing.
 use Rattle.cart.specs.Calls.{readSave}
-use Rattle.cart.specs.Replies.{state}
 use borrow.Author.Needs.{needs}
 use Rattle.byte_calls.proofs.read_save.Statement.{statement}
 use Rattle.byte_calls.proofs.read_save.Tie as tie
 
-shared-slice-read-result : tie.Need-shared-slice-read-result
-shared-slice-read-result c = omega (arith, c .before .before .before .before .before .before .pre ∙ ap memorySize (c .before .enum-told2 .given .1))
-
-flash-read-requires : tie.Need-flash-read-requires
-flash-read-requires c κs = omega (arith, c .before .before .before .before .before .pre ∙ ap memorySize (c .enum-told3 .given .1))
-
-flash-read-requires-2 : tie.Need-flash-read-requires-2
-flash-read-requires-2 c κs = omega (arith, c .before .before .before .before .before .pre ∙ ap memorySize (c .enum-told4 .given .1))
-
-shared-slice-read-result-2 : tie.Need-shared-slice-read-result-2
-shared-slice-read-result-2 c = omega (arith, c .before .before .before .before .before .before .pre ∙ ap memorySize (c .before .enum-told5 .given .1))
-
-shared-slice-read-result-3 : tie.Need-shared-slice-read-result-3
-shared-slice-read-result-3 c = omega (arith, c .before .before .before .before .before .before .pre ∙ ap memorySize (c .before .enum-told6 .given .1))
-
 returns : tie.Need-returns
 unfolding readSave
-returns c = let a = c .before .before .before .before .before .args in ap (λ (kind : SaveType). readSave kind (state (a .cart) (a .memory .now)) (a .address)) (sym (c .enum-told .given .1))
-
-returns-2 : tie.Need-returns-2
-unfolding readSave
-returns-2 c = let a = c .before .before .before .before .before .before .args in ap (λ (kind : SaveType). readSave kind (state (a .cart) (a .memory .now)) (a .address)) (sym (c .before .enum-told2 .given .1))
-
-returns-3 : tie.Need-returns-3
-unfolding readSave
-returns-3 c = let a = c .before .before .before .before .before .before .args in c .flash-read .ensures ∙ ap (λ (kind : SaveType). readSave kind (state (a .cart) (a .memory .now)) (a .address)) (sym (c .before .enum-told3 .given .1))
-
-returns-4 : tie.Need-returns-4
-unfolding readSave
-returns-4 c = let a = c .before .before .before .before .before .before .args in c .flash-read2 .ensures ∙ ap (λ (kind : SaveType). readSave kind (state (a .cart) (a .memory .now)) (a .address)) (sym (c .before .enum-told4 .given .1))
-
-returns-5 : tie.Need-returns-5
-unfolding readSave
-returns-5 c = let a = c .before .before .before .before .before .before .args in ap (λ (kind : SaveType). readSave kind (state (a .cart) (a .memory .now)) (a .address)) (sym (c .before .enum-told5 .given .1))
-
-returns-6 : tie.Need-returns-6
-unfolding readSave
-returns-6 c = let a = c .before .before .before .before .before .before .args in ap (λ (kind : SaveType). readSave kind (state (a .cart) (a .memory .now)) (a .address)) (sym (c .before .enum-told6 .given .1))
+returns c = c .read-byte .ensures
 
 pub read-save-spec : {M : Type 1} → statement M
-read-save-spec =
-    tie.close
-    (tie.spec
-    (λ c. search needs)
-    (λ c. search needs)
-    (λ c. search needs)
-    shared-slice-read-result
-    (λ c. search needs)
-    flash-read-requires
-    (λ c. search needs)
-    flash-read-requires-2
-    (λ c. search needs)
-    (λ c. search needs)
-    shared-slice-read-result-2
-    (λ c. search needs)
-    (λ c. search needs)
-    shared-slice-read-result-3
-    returns
-    returns-2
-    returns-3
-    returns-4
-    returns-5
-    returns-6)
+read-save-spec = tie.close (tie.spec (λ c κs. search needs) returns)

@@ -5,29 +5,36 @@ use Prim.Native.Nat.{_%_}
 use lib.ListN.{length}
 use Rattle.memory.specs.Memory.{Fits}
 use Rattle.eeprom.specs.declared.EepromStep.{EepromStep}
+use Rattle.eeprom.specs.Eeprom.{bitIn}
 use Rattle.eeprom.proofs.Fits.{write-fits}
 use Rattle.cart.proofs.Fields.{allowed-bounds}
 use Rattle.cart.proofs.Sound.{eeprom-size}
-use Rattle.serial_calls.proofs.Bits.{took}
 use borrow.Author.Needs.{needs}
 use Rattle.serial_calls.proofs.bit_in.Statement.{statement}
 use Rattle.serial_calls.proofs.bit_in.Tie as tie
 
 write-bit-requires : tie.Need-write-bit-requires
-write-bit-requires c κs = let b = allowed-bounds (c .before .before .before .args .cart) (c .before .before .before .pre .0) in (omega (arith, b .countOk), omega arith)
+write-bit-requires c κs =
+    let s = c .before .before .before in
+    let b = allowed-bounds (s .args .cart) (s .pre .0) in
+    (omega (arith, b .countOk), omega arith)
 
 apply-requires : tie.Need-apply-requires
 apply-requires c κs =
-    let a = c .before .before .before .before .before .before .args in
+    let s = c .before .before .before .before .before .before .before in
+    let a = s .args in
     let n = length (a .memory .now) in
-    let b = allowed-bounds (a .cart) (c .before .before .before .before .before .before .pre .0) in
-    let size = c .before .before .before .before .before .before .pre .2 ∙ eeprom-size (a .cart .kind) (c .before .before .before .before .before .before .pre .1) in
-    subst (λ (t : EepromStep). Fits (t .store) n) (sym (c .before .before .write-bit .ensures)) (write-fits n (a .cart .chip .eeprom) (a .value % 2) (omega (arith, b .blockOk)))
+    let b = allowed-bounds (a .cart) (s .pre .0) in
+    let size = s .pre .2 ∙ eeprom-size (a .cart .kind) (s .pre .1) in
+    subst (λ (t : EepromStep). Fits (t .store) n) (sym (c .before .before .before .write-bit .ensures))
+    (write-fits n (a .cart .chip .eeprom) (a .value % 2) (omega (arith, b .blockOk)))
 
 returns : tie.Need-returns
+unfolding bitIn
 returns c =
-    let a = c .before .before .before .before .before .before .before .before .before .before .before .args in
-    took (a .cart) (a .memory .now) (a .value) (c .before .before .before .before .before .before .before .write-bit .result) (c .before .dirty-behind .result) (c .before .before .before .before .before .before .before .write-bit .ensures) (c .before .dirty-behind .ensures) (c .with-eeprom .ensures) (c .before .before .before .before .apply .ensures)
+    let w = c .before .before .before .before .before .before .before .before .before .write-bit in
+    rw
+    (c .with-eeprom .ensures, c .before .flag-after .ensures, c .before .before .stores .ensures, c .before .before .before .before .before .apply .ensures, w .ensures)
 
 pub bit-in-spec : {M : Type 1} → statement M
 bit-in-spec =
@@ -35,7 +42,9 @@ bit-in-spec =
     (tie.spec
     (λ c. search needs)
     write-bit-requires
+    (λ c. search needs)
     apply-requires
+    (λ c κs. search needs)
     (λ c κs. search needs)
     (λ c κs. search needs)
     (λ c. search needs)

@@ -1,12 +1,9 @@
 -- `serial_calls::eeprom_write` meets its contract. Assumes nothing.
--- `serial_calls::eeprom_write` meets its contract. Assumes nothing.
 use mathlib.Core.Path.{refl, sym, ap, _∙_}
 use mathlib.Core.List.{[], _∷_}
 use Rattle.lists.specs.Questions.{_else_}
 use Rattle.kind.specs.Kind.{usesEeprom}
 use Rattle.cart.proofs.Replies.{step-no, step-yes, door-no, door-yes, door-more}
-use mathlib.Core.Path.{sym, ap, _∙_}
-use mathlib.Core.List.{[]}
 use native.Mathlib.Omega.{arith}
 use lib.ListN.{length}
 use Rattle.cart.specs.declared.Reply.{Reply}
@@ -14,7 +11,6 @@ use Rattle.lists.proofs.Bools.{denied, granted}
 use Rattle.cart.specs.Record.{State}
 use Rattle.cart.specs.Calls.{eepromWrite, questions, accepted}
 use Rattle.cart.specs.Replies.{state, done, replied}
-use Rattle.cart.proofs.Replies.{step-no, step-yes, door-yes, door-no}
 use borrow.Author.Needs.{needs}
 use Rattle.serial_calls.proofs.eeprom_write.Statement.{statement}
 use Rattle.serial_calls.proofs.eeprom_write.Tie as tie

@@ -7,7 +7,7 @@ use lib.ListN.{length}
 use Rattle.lists.proofs.Bools.{denied, granted}
 use Rattle.cart.specs.declared.Reply.{Reply}
 use borrow.Author.Tests.{eq-eqb, ne-eqb}
-use Rattle.memory.specs.Memory.{erased}
+use Rattle.memory.specs.Memory.{erased, stored}
 use Rattle.kind.specs.declared.SaveType.the-variants.{None}
 use Rattle.kind.specs.Kind.{memorySize}
 use Rattle.cart.specs.Record.{freshCart, fresh, outcome, openQuestions, fromBytes}
@@ -38,15 +38,19 @@ returns-2 c =
     ∙ ap replied (sym (guarded-no (openQuestions i m) [] (state (freshCart 0 None) m) (outcome [] (fresh i) []) 3 (rw (e, ← n, ne-eqb _ _ (c .before .before .if2 .taken))) (λ z. omega arith)))
 
 returns-3 : tie.Need-returns-3
-unfolding fromBytes fresh
+unfolding fromBytes fresh stored
 returns-3 c =
-    let a = c .before .before .before .before .before .before .before .before .before .before .before .before .before .args in
+    let t = c .before .before .before .before .before .before .before in
+    let q = t .before .before .before in
+    let a = q .before .before .before .before .args in
     let i = a .image .now in
     let m = a .memory .now in
-    let e = granted _ (c .before .before .before .before .before .before .before .before .before .before .image-length .ensures) (c .before .before .before .before .before .before .before .before .before .if1 .left) in
-    let n = c .before .before .before .before .before .before .before .memory-size .ensures ∙ ap memorySize (c .before .before .before .before .before .before .before .before .detect-save-type .ensures) in
-    ap₂ (λ (r : Reply) (l : List ℕ). (r, l)) (c .done .ensures ∙ ap (done 0) (c .before .fresh-cart3 .ensures ∙ ap (freshCart (length i)) (c .before .before .before .before .before .before .before .before .detect-save-type .ensures))) (c .before .before .before .before .erase .ensures ∙ ap erased (c .before .before .before .before .before .before .if2 .left ∙ n))
-    ∙ ap replied (sym (guarded-yes (openQuestions i m) [] (state (freshCart 0 None) m) (outcome [] (fresh i) []) 0 (rw (e, ← n, eq-eqb _ _ (c .before .before .before .before .before .before .if2 .left))) refl))
+    let k = t .before .before .detect-save-type .ensures in
+    let e = granted _ (q .before .image-length .ensures) (q .if1 .left) in
+    let n = t .before .memory-size .ensures ∙ ap memorySize k in
+    ap₂ (λ (r : Reply) (l : List ℕ). (r, l)) (c .done .ensures ∙ ap (done 0) (c .before .fresh-cart3 .ensures ∙ ap (freshCart (length i)) k))
+    (c .before .before .before .before .apply .ensures ∙ ap erased (t .if2 .left ∙ n))
+    ∙ ap replied (sym (guarded-yes (openQuestions i m) [] (state (freshCart 0 None) m) (outcome [] (fresh i) []) 0 (rw (e, ← n, eq-eqb _ _ (t .if2 .left))) refl))
 
 pub from-bytes-spec : {M : Type 1} → statement M
 from-bytes-spec =
@@ -61,6 +65,7 @@ from-bytes-spec =
     (λ c κs. search needs)
     (λ c κs. search needs)
     returns-2
+    (λ c. search needs)
     (λ c κs. search needs)
     (λ c κs. search needs)
     (λ c κs. search needs)

@@ -9,7 +9,7 @@ use Rattle.cart.specs.ChipState.{chipOf}
 use Rattle.cart.specs.Record.{outcome}
 use Rattle.cart.specs.Calls.{stateWith, restoreQuestions, restore}
 use Rattle.cart.specs.Replies.{state, cartWith, done, replied}
-use Rattle.cart.proofs.Fields.{state-18}
+use Rattle.cart.proofs.Fields.{state-size}
 use Rattle.cart.proofs.Replies.{guarded-no, guarded-yes}
 use borrow.Author.Needs.{needs}
 use Rattle.state_calls.proofs.restore_chip_state.Statement.{statement}
@@ -37,7 +37,7 @@ returns-2 c =
     ∙ ap replied (sym (guarded-no (restoreQuestions b s) [] s (outcome [] (stateWith s (a .cart .dirty) (chipOf b) m) []) (c .before .before .state-questions .result) (rw e (c .before .before .state-questions .ensures)) (c .before .if2 .taken)))
 
 chip-of-requires : tie.Need-chip-of-requires
-chip-of-requires c κs = state-18 (c .before .before .before .before .before .args .bytes .now) (sym (c .before .state-questions .ensures) ∙ c .if2 .left)
+chip-of-requires c κs = state-size (c .before .before .before .before .before .args .bytes .now) (sym (c .before .state-questions .ensures) ∙ c .if2 .left)
 
 returns-3 : tie.Need-returns-3
 unfolding restore

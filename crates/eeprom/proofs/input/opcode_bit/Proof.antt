@@ -1,8 +1,6 @@
 -- `eeprom::input::opcode_bit` meets its contract. Assumes nothing.
 use mathlib.Core.Path.{sym, ap, _∙_}
-use Prim.Native.Nat.{ℕ}
-use Rattle.eeprom.specs.declared.EepromPhase.{EepromPhase}
-use Rattle.eeprom.specs.Eeprom.{serial, kept, shifted, opcodePhase, opcodeBit}
+use Rattle.eeprom.specs.Eeprom.{shifted, decoded, opcodeBit}
 use borrow.Author.Needs.{needs}
 use Rattle.eeprom.proofs.input.opcode_bit.Statement.{statement}
 use Rattle.eeprom.proofs.input.opcode_bit.Tie as tie
@@ -11,14 +9,13 @@ returns : tie.Need-returns
 unfolding opcodeBit
 returns c =
     let e = c .before .before .before .before .before .args .e in
-    c .more .ensures ∙ ap (shifted e (λ (acc : ℕ). kept (serial e (opcodePhase acc) 0 (e .block) (e .place) 0))) (sym (c .before .before .s .given .1) ∙ c .before .before .before .before .shift-in .ensures)
+    c .more .ensures ∙ ap (shifted e (decoded e)) (sym (c .before .before .s .given .1) ∙ c .before .before .before .before .shift-in .ensures)
 
 returns-2 : tie.Need-returns-2
 unfolding opcodeBit
 returns-2 c =
-    let e = c .before .before .before .before .before .before .before .args .e in
-    c .kept .ensures ∙ ap kept (c .before .serial .ensures ∙ ap (λ (p : EepromPhase). serial e p 0 (e .block) (e .place) 0) (c .before .before .opcode-phase .ensures))
-    ∙ ap (shifted e (λ (acc : ℕ). kept (serial e (opcodePhase acc) 0 (e .block) (e .place) 0))) (sym (c .before .before .before .before .s2 .given .1) ∙ c .before .before .before .before .before .before .shift-in .ensures)
+    let e = c .before .before .before .before .before .args .e in
+    c .decoded .ensures ∙ ap (shifted e (decoded e)) (sym (c .before .before .s2 .given .1) ∙ c .before .before .before .before .shift-in .ensures)
 
 pub opcode-bit-spec : {M : Type 1} → statement M
 opcode-bit-spec =
@@ -28,8 +25,6 @@ opcode-bit-spec =
     (λ c. search needs)
     (λ c κs. search needs)
     (λ c. search needs)
-    (λ c κs. search needs)
-    (λ c κs. search needs)
     (λ c κs. search needs)
     returns
     returns-2)
