@@ -1,55 +1,104 @@
-// `save_read` and `save_write` on the 24 bytes of a record. In front of question 2 stands the quick test of a usual record.
+// `save_read` and `save_write` on the bytes of a record. In front of question 2 is the quick test; a function `_any` is for every record. It is
+// called last and at two places, so that the compiler leaves it out of line and the quick way pays nothing for it.
 
+use byte_step::read_byte;
+use byte_step::write_byte;
+use c_record::RecordBytes;
+use c_record::flash_in;
 use c_record::is_record;
-use in_place::read_in_place;
-use in_place::write_in_place;
+use c_record::kind_in;
+use c_record::put_flash;
+use c_record::put_id;
+use kind::memory_size;
+use memory::NO_FILE;
+use memory::apply;
+use quick_tests::bytes_usual;
 use quick_tests::known;
-use quick_tests::read_usual;
-use quick_tests::write_usual;
 ghost use mathlib.Core.Path.{_≡_};
-ghost use mathlib.Core.List.{[]};
-ghost use Rattle.cart.specs.Calls.{saveRead, saveWrite, step};
-ghost use Rattle.c_record.specs.Abi.{called, calledAt};
+ghost use Rattle.c_record.specs.RecordBytes.{Valid};
+ghost use Rattle.c_record.specs.Calls.{reads, writes};
 
-// Of every record; called last, so that the quick way pays nothing for it.
-fn read_any(cart: &[u8; 24], memory: &[u8], address: u32, value: &mut u32) -> u32
-    ensures { λ x. ⌜ (x, now (cart .entry), now (memory .entry), now (value .exit)) ≡ calledAt (step (saveRead address) []) (now (cart .entry)) (now (memory .entry)) (now (value .entry)) ⌝ }
+fn read_valid(cart: &RecordBytes, memory: &[u8], address: u32, value: &mut u32) -> u32
+    requires { ⌜ Valid (now cart) ⌝ }
+    ensures { λ x. ⌜
+        (x, now (cart .entry), now (memory .entry), now (value .exit))
+        ≡ reads address (now (cart .entry)) (now (memory .entry)) (now (value .entry)) ⌝ }
+{
+    let kind = kind_in(cart);
+    if memory.len() != memory_size(kind) {
+        return 3;
+    }
+    *value = read_byte(kind, flash_in(cart), memory, address) as u32;
+    0
+}
+
+fn read_any(cart: &RecordBytes, memory: &[u8], address: u32, value: &mut u32) -> u32
+    ensures { λ x. ⌜
+        (x, now (cart .entry), now (memory .entry), now (value .exit))
+        ≡ reads address (now (cart .entry)) (now (memory .entry)) (now (value .entry)) ⌝ }
 {
     if !is_record(cart) {
         return 2;
     }
-    read_in_place(&cart[..], &memory[..], address, value)
+    read_valid(cart, &memory[..], address, value)
 }
 
-pub fn save_read(cart: &[u8; 24], memory: &[u8], address: u32, value: &mut u32) -> u32
-    ensures { λ x. ⌜ (x, now (cart .entry), now (memory .entry), now (value .exit)) ≡ calledAt (step (saveRead address) []) (now (cart .entry)) (now (memory .entry)) (now (value .entry)) ⌝ }
+pub fn save_read(cart: &RecordBytes, memory: &[u8], address: u32, value: &mut u32) -> u32
+    ensures { λ x. ⌜
+        (x, now (cart .entry), now (memory .entry), now (value .exit))
+        ≡ reads address (now (cart .entry)) (now (memory .entry)) (now (value .entry)) ⌝ }
 {
     if !known(cart) {
         return read_any(cart, memory, address, value);
     }
-    if !read_usual(cart) {
+    if !bytes_usual(cart) {
         return read_any(cart, memory, address, value);
     }
-    read_in_place(&cart[..], memory, address, value)
+    read_valid(cart, memory, address, value)
 }
 
-fn write_any(cart: &mut [u8; 24], memory: &mut [u8], address: u32, value: u8) -> u32
-    ensures { λ x. ⌜ (x, now (cart .exit), now (memory .exit)) ≡ called (step (saveWrite address value) []) (now (cart .entry)) (now (memory .entry)) ⌝ }
+// The record is updated first, so that nothing stays live across an erase.
+fn write_valid(cart: &mut RecordBytes, memory: &mut [u8], address: u32, value: u8) -> u32
+    requires { ⌜ Valid (now cart) ⌝ }
+    ensures { λ x. ⌜
+        (x, now (cart .exit), now (memory .exit))
+        ≡ writes address value (now (cart .entry)) (now (memory .entry)) ⌝ }
+{
+    let kind = kind_in(cart);
+    if memory.len() != memory_size(kind) {
+        return 3;
+    }
+    let flash = flash_in(cart);
+    let t = write_byte(kind, flash, memory.len(), address, value);
+    let store = t.store;
+    let next = t.flash;
+    put_flash(cart, t.sets, next);
+    apply(store, &NO_FILE, memory);
+    put_id(cart, flash.id, next.id);
+    0
+}
+
+fn write_any(cart: &mut RecordBytes, memory: &mut [u8], address: u32, value: u8) -> u32
+    ensures { λ x. ⌜
+        (x, now (cart .exit), now (memory .exit))
+        ≡ writes address value (now (cart .entry)) (now (memory .entry)) ⌝ }
 {
     if !is_record(cart) {
         return 2;
     }
-    write_in_place(&mut cart[..], &mut memory[..], address, value)
+    write_valid(cart, &mut memory[..], address, value)
 }
 
-pub fn save_write(cart: &mut [u8; 24], memory: &mut [u8], address: u32, value: u8) -> u32
-    ensures { λ x. ⌜ (x, now (cart .exit), now (memory .exit)) ≡ called (step (saveWrite address value) []) (now (cart .entry)) (now (memory .entry)) ⌝ }
+pub fn save_write(cart: &mut RecordBytes, memory: &mut [u8], address: u32, value: u8) -> u32
+    ensures { λ x. ⌜
+        (x, now (cart .exit), now (memory .exit))
+        ≡ writes address value (now (cart .entry)) (now (memory .entry)) ⌝ }
 {
     if !known(cart) {
         return write_any(cart, memory, address, value);
     }
-    if !write_usual(cart) {
+    if !bytes_usual(cart) {
         return write_any(cart, memory, address, value);
     }
-    write_in_place(&mut cart[..], memory, address, value)
+    write_valid(cart, memory, address, value)
 }

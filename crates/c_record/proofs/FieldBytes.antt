@@ -22,10 +22,10 @@ pub flash-read : (r : List ℕ) → record { state = getD r 6 0; bank = getD r 7
 unfolding cartOf chipOf
 flash-read r = λ i. record { state = sym (getD-drop 6 r 0 0) i; bank = sym (getD-drop 6 r 1 0) i; id = eqb (sym (getD-drop 6 r 2 0) i) 1 }
 
--- the flag bytes of a valid record
-pub id-byte : (r : List ℕ) → Valid r → getD r 8 0 ≡ bit (cartOf r .chip .flash .id)
+-- the flag bytes of a valid record: the ID mode, which `withFlash` leaves, and large
+pub id-byte : (r : List ℕ) → Valid r → (sets : Bool) (f : Flash) → getD (withFlash r sets f) 8 0 ≡ bit (cartOf r .chip .flash .id)
 unfolding recordBytes chipBytes lowFirst
-id-byte r v = ap (λ (l : List ℕ). getD l 8 0) (sym (v .back))
+id-byte r v sets f = ap (λ (l : List ℕ). getD (withFlash l sets f) 8 0) (sym (v .back))
 
 pub large-byte : (r : List ℕ) → Valid r → getD r 10 0 ≡ bit (cartOf r .chip .eeprom .large)
 unfolding recordBytes chipBytes lowFirst

@@ -1,19 +1,23 @@
+-- `c_byte_calls::read_any` meets its contract. Assumes nothing.
 use Rattle.lists.proofs.Bools.{denied, granted}
-use Rattle.c_byte_calls.proofs.ByteCalls.{read-held}
+use mathlib.Core.Path.{ap}
 use mathlib.Core.List.{[]}
 use Rattle.cart.specs.Calls.{saveRead, step}
-use Rattle.c_record.proofs.Calls.{called-at-no}
+use Rattle.c_record.specs.AtExit.{valueAt}
+use Rattle.c_record.proofs.Calls.{no-record}
 use borrow.Author.Needs.{needs}
 use Rattle.c_byte_calls.proofs.read_any.Statement.{statement}
 use Rattle.c_byte_calls.proofs.read_any.Tie as tie
 
 returns : tie.Need-returns
-returns c = let a = c .before .before .before .args in called-at-no (step (saveRead (a .address)) []) (a .cart .now) (a .memory .now) (a .value .now) (denied _ (c .before .is-record .ensures .0) (c .if1 .taken))
+returns c =
+    let a = c .before .before .before .args in
+    ap (valueAt (a .value .now)) (no-record (step (saveRead (a .address)) []) [] (a .cart .now) (a .memory .now) (denied _ (c .before .is-record .ensures .0) (c .if1 .taken)))
 
-returns-2 : tie.Need-returns-2
-returns-2 c = let h = granted _ (c .before .before .before .before .is-record .ensures .0) (c .before .before .before .if1 .left) in
-    let a = c .before .before .before .before .before .before .args in
-    read-held (a .cart .now) (a .memory .now) h (c .before .before .before .before .is-record .ensures .1 h) (a .address) (a .value .now) (c .read-in-place .ensures)
+read-valid-requires : tie.Need-read-valid-requires
+read-valid-requires c κs =
+    let i = c .before .before .is-record .ensures in
+    i .1 (granted _ (i .0) (c .before .if1 .left))
 
 pub read-any-spec : {M : Type 1} → statement M
-read-any-spec = tie.close (tie.spec (λ c κs. search needs) returns (λ c κs. search needs) returns-2)
+read-any-spec = tie.close (tie.spec (λ c κs. search needs) returns read-valid-requires (λ c. search needs))

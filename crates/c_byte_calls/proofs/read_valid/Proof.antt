@@ -1,0 +1,36 @@
+-- `c_byte_calls::read_valid` meets its contract. Assumes nothing.
+use mathlib.Core.Path.{sym, ap, ap₂, _∙_}
+use Rattle.kind.specs.declared.SaveType.{SaveType}
+use Rattle.kind.specs.Kind.{memorySize}
+use Rattle.flash.specs.declared.Flash.{Flash}
+use Rattle.byte_step.specs.ByteStep.{readByte}
+use Rattle.c_byte_calls.proofs.ByteCalls.{read-no, read-yes}
+use borrow.Author.Needs.{needs}
+use Rattle.c_byte_calls.proofs.read_valid.Statement.{statement}
+use Rattle.c_byte_calls.proofs.read_valid.Tie as tie
+
+returns : tie.Need-returns
+returns c =
+    let s = c .before .before .before .before in
+    let e = c .before .memory-size .ensures ∙ ap memorySize (c .before .before .kind-in .ensures) in
+    read-no (s .args .cart .now) (s .args .memory .now) (s .pre) (λ z. c .if1 .taken (z ∙ sym e)) (s .args .address) (s .args .value .now)
+
+returns-2 : tie.Need-returns-2
+returns-2 c =
+    let s = c .before .before .before .before .before .before in
+    let k = c .before .before .before .before .kind-in in
+    let m = s .args .memory .now in
+    read-yes (s .args .cart .now) m (s .pre) (c .before .before .if1 .left ∙ c .before .before .before .memory-size .ensures ∙ ap memorySize (k .ensures)) (s .args .address) (s .args .value .now) _
+    (c .read-byte .ensures ∙ ap₂ (λ (x : SaveType) (f : Flash). readByte x f m (s .args .address)) (k .ensures) (c .before .flash-in .ensures))
+
+pub read-valid-spec : {M : Type 1} → statement M
+read-valid-spec =
+    tie.close
+    (tie.spec
+    (λ c κs. search needs)
+    (λ c κs. search needs)
+    returns
+    (λ c κs. search needs)
+    (λ c κs. search needs)
+    (λ c. search needs)
+    returns-2)

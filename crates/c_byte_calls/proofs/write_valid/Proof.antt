@@ -1,0 +1,66 @@
+-- `c_byte_calls::write_valid` meets its contract. Assumes nothing.
+use mathlib.Core.Path.{sym, subst, ap, ap₂, _∙_}
+use mathlib.Core.List.{List}
+use Prim.Native.Nat.{ℕ}
+use lib.ListN.{length, getD}
+use Rattle.memory.specs.Memory.{Fits}
+use Rattle.kind.specs.declared.SaveType.{SaveType}
+use Rattle.kind.specs.Kind.{memorySize}
+use Rattle.flash.specs.declared.Flash.{Flash}
+use Rattle.byte_step.specs.declared.ByteStep.{ByteStep}
+use Rattle.byte_step.specs.ByteStep.{writeStep}
+use Rattle.byte_step.proofs.Fits.{step-fits}
+use Rattle.cart.specs.ChipState.{bit}
+use Rattle.c_record.specs.Fields.{withId}
+use Rattle.c_record.proofs.FieldBytes.{id-byte}
+use Rattle.c_byte_calls.proofs.ByteCalls.{write-no, write-yes}
+use borrow.Author.Needs.{needs}
+use Rattle.c_byte_calls.proofs.write_valid.Statement.{statement}
+use Rattle.c_byte_calls.proofs.write_valid.Tie as tie
+
+returns : tie.Need-returns
+returns c =
+    let s = c .before .before .before .before .before in
+    let e = c .before .memory-size .ensures ∙ ap memorySize (c .before .before .kind-in .ensures) in
+    write-no (s .args .cart .now) (s .args .memory .now) (s .pre) (λ z. c .if1 .taken (z ∙ sym e)) (s .args .address) (s .args .value)
+
+apply-requires : tie.Need-apply-requires
+apply-requires c κs =
+    let a = c .before .before .before .before .before .before .before .before .before .before .before .before .before .args in
+    let n = length (a .memory .now) in
+    let e = c .before .before .before .before .before .before .before .before .if1 .left ∙ c .before .before .before .before .before .before .before .before .before .memory-size .ensures in
+    subst (λ (t : ByteStep). Fits (t .store) n) (sym (c .before .before .before .before .before .write-byte .ensures)) (step-fits (c .before .before .before .before .before .before .before .before .before .before .kind-in .result) _ n (a .address) (a .value) e)
+
+put-id-requires : tie.Need-put-id-requires
+put-id-requires c κs =
+    let s = c .before .before .before .before .before .before .before .before .before .before .before .before .before .before .before .before .before in
+    let t = c .before .before .before .before .before .before .before .before .before .write-byte .result in
+    ap (λ (l : List ℕ). getD l 8 0) (c .before .before .before .before .before .before .put-flash .ensures) ∙ id-byte (s .args .cart .now) (s .pre) (t .sets) (t .flash) ∙ ap (λ (f : Flash). bit (f .id)) (sym (c .before .before .before .before .before .before .before .before .before .before .flash-in .ensures))
+
+returns-2 : tie.Need-returns-2
+returns-2 c =
+    let s = c .before .before .before .before .before .before .before .before .before .before .before .before .before .before .before .before .before .before in
+    let r = s .args .cart .now in
+    let m = s .args .memory .now in
+    let k = c .before .before .before .before .before .before .before .before .before .before .before .before .before .before .before .kind-in in
+    let t = c .before .before .before .before .before .before .before .before .before .before .write-byte in
+    write-yes r m (s .pre) (c .before .before .before .before .before .before .before .before .before .before .before .before .before .if1 .left ∙ c .before .before .before .before .before .before .before .before .before .before .before .before .before .before .memory-size .ensures ∙ ap memorySize (k .ensures)) (s .args .address) (s .args .value) (t .result)
+    (t .ensures ∙ ap₂ (λ (x : SaveType) (f : Flash). writeStep x f (length m) (s .args .address) (s .args .value)) (k .ensures) (c .before .before .before .before .before .before .before .before .before .before .before .flash-in .ensures))
+    (c .put-id .ensures ∙ ap (λ (l : List ℕ). withId l (t .result .flash .id)) (c .before .before .before .before .before .before .before .put-flash .ensures))
+    (c .before .before .before .before .apply .ensures)
+
+pub write-valid-spec : {M : Type 1} → statement M
+write-valid-spec =
+    tie.close
+    (tie.spec
+    (λ c κs. search needs)
+    (λ c κs. search needs)
+    returns
+    (λ c κs. search needs)
+    (λ c κs. search needs)
+    (λ c κs. search needs)
+    (λ c. search needs)
+    apply-requires
+    put-id-requires
+    (λ c. search needs)
+    returns-2)
