@@ -17,7 +17,6 @@ ghost use mathlib.Core.Path.{_≡_};
 ghost use mathlib.Core.List.{[]};
 ghost use Prim.Native.Nat.{_≤_};
 ghost use lib.ListN.{length};
-ghost use Rattle.lists.specs.Lists.{into};
 ghost use Rattle.cart.specs.ChipState.{stateSize};
 ghost use Rattle.cart.specs.Replies.{state};
 ghost use Rattle.frames.specs.Frames.{lineOf};
