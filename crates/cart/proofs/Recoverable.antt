@@ -21,7 +21,8 @@ use Rattle.kind.specs.declared.SaveType.{SaveType}
 use Rattle.kind.specs.Kind.{memorySize, usesEeprom, detectSaveType}
 use Rattle.eeprom.specs.declared.Eeprom.{Eeprom}
 use Rattle.eeprom.specs.declared.EepromStep.{EepromStep}
-use Rattle.eeprom.specs.Eeprom.{tells6, tells14, beginDma, bitIn, isReading, afterRead}
+use Rattle.eeprom.specs.declared.Drawn.{Drawn}
+use Rattle.eeprom.specs.Eeprom.{tells6, tells14, beginDma, bitIn, isReading, drawnFrom, afterRead}
 use Rattle.eeprom.proofs.Sound as eeprom
 use Rattle.cart.specs.Record.{State, freshCart, fresh, fromBytes}
 use Rattle.cart.specs.Calls.{Call, saveRead, saveWrite, eepromBeginDma, eepromWrite, eepromRead, loadSave, saveData, chipState, takeSaveDirty}
@@ -59,7 +60,7 @@ dma-large words e =
 read-large : (e : Eeprom) → afterRead e .large ≡ e .large
 unfolding afterRead
 read-large e =
-    let P : Eeprom → Type 0 = λ x. x .large ≡ e .large in
+    let P : Drawn → Type 0 = λ d. drawnFrom e d .large ≡ e .large in
     either P (isReading (e .phase)) (either P (eqb (e .place) 67) refl refl) refl
 
 way-large : {e : Eeprom} {t : EepromStep} → eeprom.Way e t → t .eeprom .large ≡ e .large
