@@ -12,7 +12,7 @@ use Rattle.cart.specs.declared.ChipRecord.{ChipRecord}
 use Rattle.cart.specs.Record.{State, Outcome}
 use Rattle.cart.specs.Calls.{eepromWrite, questions, accepted, step}
 use Rattle.cart.specs.Replies.{state, replied}
-use Rattle.chip_by_reference.specs.Lent.{cartFrom, apart, together}
+use Rattle.chip_by_reference.specs.Lent.{cartFrom, plainCall, apart, together}
 use Rattle.chip_by_reference.specs.Claims.{ThinCall}
 
 module _ (len : ℕ) (kind : SaveType) (dirty : Bool) (chip : ChipRecord) (m : List ℕ) (v : ℕ) where
@@ -23,11 +23,12 @@ module _ (len : ℕ) (kind : SaveType) (dirty : Bool) (chip : ChipRecord) (m : L
   allowed = eqb (asked (questions (eepromWrite v) [] s)) 0
 
   -- accepted, the image's length and the kind stay, and no number is answered; refused, all stays
-  same-plain : together len kind (apart (replied (step (eepromWrite v) [] s))) ≡ replied (step (eepromWrite v) [] s)
+  same-plain : together len kind (apart (plainCall len kind dirty chip m v)) ≡ plainCall len kind dirty chip m v
   unfolding step accepted
   same-plain = either (λ (o : Outcome). together len kind (apart (replied o)) ≡ replied o) allowed refl refl
 
-  refused-leaves : (n : ℕ) → n ≢ 0 → step (eepromWrite v) [] s .refusal ≡ n → apart (replied (step (eepromWrite v) [] s)) ≡ (record { refusal = n; dirty = dirty }, chip, m)
+  refused-leaves : (n : ℕ) → n ≢ 0 → step (eepromWrite v) [] s .refusal ≡ n
+      → apart (plainCall len kind dirty chip m v) ≡ (record { refusal = n; dirty = dirty }, chip, m)
   unfolding step accepted
   refused-leaves n h =
       split (λ (o : Outcome). o .refusal ≡ n → apart (replied o) ≡ (record { refusal = n; dirty = dirty }, chip, m)) allowed (λ t e. absurd (h (sym e))) (λ t e. rw e)

@@ -1,23 +1,16 @@
--- What is claimed of the thin call. Its contract is what the plain call's says, taken apart (`apart`).
+-- What is claimed of the thin call. Its contract is the plain call's, taken apart (`apart`).
 use mathlib.Core.Path.{_≡_}
 use mathlib.Core.Logic.{_≢_}
 use mathlib.Core.Bool.{Bool}
-use mathlib.Core.List.{List, []}
+use mathlib.Core.List.{List}
 use Prim.Native.Nat.{ℕ}
 use Rattle.kind.specs.declared.SaveType.{SaveType}
 use Rattle.cart.specs.declared.ChipRecord.{ChipRecord}
-use Rattle.cart.specs.declared.Reply.{Reply}
-use Rattle.cart.specs.Calls.{eepromWrite, step}
-use Rattle.cart.specs.Replies.{state, replied}
-use Rattle.chip_by_reference.specs.Lent.{cartFrom, apart, together}
-
--- what the contract of `serial_calls::eeprom_write` says
-abbrev pub plain : ℕ → SaveType → Bool → ChipRecord → List ℕ → ℕ → Reply × List ℕ
-plain len kind dirty chip m v = replied (step (eepromWrite v) [] (state (cartFrom len kind dirty chip) m))
+use Rattle.chip_by_reference.specs.Lent.{plainCall, apart, together}
 
 pub record ThinCall (len : ℕ) (kind : SaveType) (dirty : Bool) (chip : ChipRecord) (m : List ℕ) (v : ℕ) : Type 0 where
   -- "its other answers those of the plain call": nothing that the plain call answers is lost
-  pub samePlain : together len kind (apart (plain len kind dirty chip m v)) ≡ plain len kind dirty chip m v
+  pub samePlain : together len kind (apart (plainCall len kind dirty chip m v)) ≡ plainCall len kind dirty chip m v
   -- "A no returns the number, the record as given, all buffers unchanged"
-  pub refusedLeaves : (n : ℕ) → n ≢ 0 → plain len kind dirty chip m v .0 .refusal ≡ n
-      → apart (plain len kind dirty chip m v) ≡ (record { refusal = n; dirty = dirty }, chip, m)
+  pub refusedLeaves : (n : ℕ) → n ≢ 0 → plainCall len kind dirty chip m v .0 .refusal ≡ n
+      → apart (plainCall len kind dirty chip m v) ≡ (record { refusal = n; dirty = dirty }, chip, m)

@@ -1,22 +1,28 @@
--- The serial bit in with the chip record apart. Document 01: "the serial bit in also comes as one thin call on a chip record lent to be
--- changed, its other answers those of the plain call".
+-- The serial bit in with the chip record apart. Document 01: "the serial bit in also comes as one thin call on a chip
+-- record lent to be changed, its other answers those of the plain call".
 use mathlib.Core.Bool.{Bool}
-use mathlib.Core.List.{List}
+use mathlib.Core.List.{List, []}
 use Prim.Native.Nat.{ℕ}
 use Rattle.kind.specs.declared.SaveType.{SaveType}
 use Rattle.cart.specs.declared.ChipRecord.{ChipRecord}
 use Rattle.cart.specs.declared.Cartridge.{Cartridge}
 use Rattle.cart.specs.declared.Reply.{Reply}
+use Rattle.cart.specs.Calls.{eepromWrite, step}
+use Rattle.cart.specs.Replies.{state, reply, replied}
 use Rattle.chip_by_reference.specs.declared.LentReply.{LentReply}
 
 -- the record that the parameters make
 abbrev pub cartFrom : ℕ → SaveType → Bool → ChipRecord → Cartridge
 cartFrom len kind dirty chip = record { len = len; kind = kind; dirty = dirty; chip = chip }
 
--- what the plain call answers and the memory that it leaves, with the chip record apart
+-- what the contract of `serial_calls::eeprom_write` says of it
+abbrev pub plainCall : ℕ → SaveType → Bool → ChipRecord → List ℕ → ℕ → Reply × List ℕ
+plainCall len kind dirty chip m v = replied (step (eepromWrite v) [] (state (cartFrom len kind dirty chip) m))
+
+-- a reply and a memory, with the chip record apart
 abbrev pub apart : Reply × List ℕ → LentReply × ChipRecord × List ℕ
 apart p = (record { refusal = p .0 .refusal; dirty = p .0 .cart .dirty }, p .0 .cart .chip, p .1)
 
 -- and together again; the plain call's value is 0
 abbrev pub together : ℕ → SaveType → LentReply × ChipRecord × List ℕ → Reply × List ℕ
-together len kind p = (record { refusal = p .0 .refusal; value = 0; cart = cartFrom len kind (p .0 .dirty) (p .1) }, p .2)
+together len kind p = (reply (p .0 .refusal) 0 (cartFrom len kind (p .0 .dirty) (p .1)), p .2)

@@ -1,16 +1,13 @@
-// The serial bit in on a chip record that stands apart from the cartridge record: by value, and lent to be changed.
+// The serial bit in on a chip record apart from the cartridge record: by value, and by `&mut`.
 
 use cart::Cartridge;
 use cart::ChipRecord;
 use kind::SaveType;
 use serial_calls::eeprom_write;
 ghost use mathlib.Core.Path.{_≡_};
-ghost use mathlib.Core.List.{[]};
-ghost use Rattle.cart.specs.Calls.{eepromWrite, step};
-ghost use Rattle.cart.specs.Replies.{state, replied};
-ghost use Rattle.chip_by_reference.specs.Lent.{cartFrom, apart};
+ghost use Rattle.chip_by_reference.specs.Lent.{plainCall, apart};
 
-// The refusal's number or 0, and the changed flag behind the call.
+// The number of a refusal or 0, and the changed flag after the call.
 pub struct LentReply {
     pub refusal: u8,
     pub dirty: bool,
@@ -21,7 +18,7 @@ pub struct ChipReply {
     pub reply: LentReply,
 }
 
-// The plain call, `eeprom_write`, on the cartridge record of these fields; for callers that hold the chip record by value.
+// Calls `eeprom_write` on the cartridge record of these fields.
 pub fn eeprom_write_chip(
     chip: ChipRecord,
     len: usize,
@@ -30,7 +27,8 @@ pub fn eeprom_write_chip(
     memory: &mut [u8],
     value: u16,
 ) -> ChipReply
-    ensures { λ r. ⌜ (r .reply, r .chip, now (memory .exit)) ≡ apart (replied (step (eepromWrite value) [] (state (cartFrom len kind dirty chip) (now (memory .entry))))) ⌝ }
+    ensures { λ r. ⌜ (r .reply, r .chip, now (memory .exit))
+        ≡ apart (plainCall len kind dirty chip (now (memory .entry)) value) ⌝ }
 {
     let cart = Cartridge {
         len: len,
@@ -50,7 +48,7 @@ pub fn eeprom_write_chip(
     }
 }
 
-// The thin call: the same on a chip record that is lent to be changed. It is copied out, stepped and written back; refused, it stays.
+// The thin call: copies the chip record out, steps it and writes it back. A refused call leaves it unchanged.
 pub fn eeprom_write_lent(
     chip: &mut ChipRecord,
     len: usize,
@@ -59,7 +57,8 @@ pub fn eeprom_write_lent(
     memory: &mut [u8],
     value: u16,
 ) -> LentReply
-    ensures { λ r. ⌜ (r, now (chip .exit), now (memory .exit)) ≡ apart (replied (step (eepromWrite value) [] (state (cartFrom len kind dirty (now (chip .entry))) (now (memory .entry))))) ⌝ }
+    ensures { λ r. ⌜ (r, now (chip .exit), now (memory .exit))
+        ≡ apart (plainCall len kind dirty (now (chip .entry)) (now (memory .entry)) value) ⌝ }
 {
     let next = eeprom_write_chip(*chip, len, kind, dirty, memory, value);
     *chip = next.chip;

@@ -20,7 +20,7 @@ use Rattle.cart.specs.declared.Reply.{Reply}
 use Rattle.cart.specs.ChipState.{chipBytes}
 use Rattle.cart.specs.Record.{State, Outcome, recordAllowed}
 use Rattle.cart.specs.Calls.{saveData, chipState, fileOf, eepromFile, holds, exported, step}
-use Rattle.cart.specs.Cut.{fileLeft, bytesLeft, reloaded, cut}
+use Rattle.cart.specs.Cut.{fileLeft, bytesLeft, reloaded}
 use Rattle.cart.specs.Replies.{state, first, exportReplied}
 use Rattle.cart.proofs.CutRuns.{file-fits, export-accepted, state-accepted, file-left, bytes-left}
 use Rattle.state_calls.specs.StateAnswer.{orZeros}

@@ -1,4 +1,4 @@
-// A cut, by the real calls: export and `chip_state`; opening, load and restore.
+// A cut, made by the real calls: export and `chip_state`, then opening, load and restore.
 
 use cart::Cartridge;
 use file_calls::load_save;
@@ -11,15 +11,15 @@ ghost use mathlib.Core.Bool.{true};
 ghost use Prim.Native.Nat.{_≤_};
 ghost use lib.ListN.{length};
 ghost use Rattle.kind.specs.Kind.{memorySize};
-ghost use Rattle.cart.specs.Record.{recordAllowed, fromBytes};
-ghost use Rattle.cart.specs.Calls.{restore};
+ghost use Rattle.cart.specs.Record.{recordAllowed};
 ghost use Rattle.cart.specs.Cut.{cut as cut·spec};
 ghost use Rattle.cart.specs.Replies.{state};
-ghost use Rattle.cut_call.specs.Loads.{loadedFrom};
+ghost use Rattle.cut_call.specs.Loads.{loadedFrom, resumed};
 
-// No file has no bytes.
+// An empty file means that there is none.
 fn load_where_there_is_one(cart: Cartridge, memory: &mut [u8], file: &[u8]) -> Cartridge
-    ensures { λ r. ⌜ state r (now (memory .exit)) ≡ loadedFrom (now (file .entry)) (state cart (now (memory .entry))) ⌝ }
+    ensures { λ r. ⌜ state r (now (memory .exit))
+        ≡ loadedFrom (now (file .entry)) (state cart (now (memory .entry))) ⌝ }
 {
     if file.len() == 0 {
         return cart;
@@ -28,9 +28,10 @@ fn load_where_there_is_one(cart: Cartridge, memory: &mut [u8], file: &[u8]) -> C
     loaded.cart
 }
 
-// The same image opened, the file loaded, the 18 bytes restored.
+// Opens the same image, loads the file and restores the chip.
 fn resume(image: &[u8], memory: &mut [u8], file: &[u8], bytes: &[u8]) -> Cartridge
-    ensures { λ r. ⌜ state r (now (memory .exit)) ≡ restore (now (bytes .entry)) (loadedFrom (now (file .entry)) (fromBytes (now (image .entry)) (now (memory .entry)) .next)) .next ⌝ }
+    ensures { λ r. ⌜ state r (now (memory .exit))
+        ≡ resumed (now (image .entry)) (now (memory .entry)) (now (file .entry)) (now (bytes .entry)) ⌝ }
 {
     let opened = from_bytes(image, memory);
     let fresh = opened.cart;
@@ -39,12 +40,13 @@ fn resume(image: &[u8], memory: &mut [u8], file: &[u8], bytes: &[u8]) -> Cartrid
     restored.cart
 }
 
-// The scratch keeps the file from the one cartridge to the other.
+// The scratch holds the file between export and load.
 pub fn cut(image: &[u8], cart: Cartridge, memory: &mut [u8], scratch: &mut [u8]) -> Cartridge
     requires { ⌜ recordAllowed cart ≡ true ⌝ }
     requires { ⌜ length (now memory) ≡ memorySize (cart .kind) ⌝ }
     requires { ⌜ length (now memory) ≤ length (now scratch) ⌝ }
-    ensures { λ r. ⌜ state r (now (memory .exit)) ≡ cut·spec (now (image .entry)) (now (memory .entry)) (state cart (now (memory .entry))) ⌝ }
+    ensures { λ r. ⌜ state r (now (memory .exit))
+        ≡ cut·spec (now (image .entry)) (now (memory .entry)) (state cart (now (memory .entry))) ⌝ }
 {
     let n = memory.len();
     let exported = save_data(cart, memory, &mut scratch[..n]);

@@ -49,11 +49,9 @@ use Rattle.kind.specs.declared.SaveType.{SaveType}
 use Rattle.kind.proofs.SaveType as K
 use Rattle.kind.proofs.SaveType.Laws as K′
 use Rattle.cart.specs.declared.ChipRecord.{ChipRecord}
-use Rattle.cart.specs.Calls.{eepromWrite, step}
-use Rattle.cart.specs.Replies.{state, replied}
 use Rattle.cart.proofs.ChipRecord as T
 use Rattle.cart.proofs.ChipRecord.Laws as T′
-use Rattle.chip_by_reference.specs.Lent.{cartFrom, apart}
+use Rattle.chip_by_reference.specs.Lent.{plainCall, apart}
 use Rattle.chip_by_reference.specs.declared.ChipReply.{ChipReply}
 use Rattle.chip_by_reference.proofs.ChipReply as C′
 use Rattle.chip_by_reference.proofs.ChipReply.Laws as C″
@@ -119,7 +117,7 @@ module _ {M : Type 1} (𝓤 : URA M) (H : Heap 𝓤) (A : Atoms 𝓤) (W : Given
 
   -- what `eeprom_write_chip` ensures
   abbrev Says : ChipReply → List ℕ → Type 0
-  Says r zs = (r .reply, r .chip, zs) ≡ apart (replied (step (eepromWrite v) [] (state (cartFrom n k d h) ys)))
+  Says r zs = (r .reply, r .chip, zs) ≡ apart (plainCall n k d h ys v)
 
   -- what the fields of a result are
   parts : (r : ChipReply) (w : Val) → Is C′.the-row r (w ∷ []) → Is T.the-row (r .chip) (chip-val (r .chip) ∷ []) × Is L.the-row (r .reply) (only (LL.vals L.the-type L′.the-laws (r .reply)) ∷ [])
@@ -210,4 +208,4 @@ eeprom-write-lent-spec 𝓤 H 𝓜 𝓖 𝓡 =
     entered 𝓤 H (tripleOf 𝓤 H (𝓖 .A) lent.signature (lent.spec 𝓤 H (𝓖 .A) (𝓜 .mem) (𝓡 .run)))
     (tables 𝓤 H 𝓜 𝓡 code.env .C) (tables 𝓤 H 𝓜 𝓡 code.env .Λ) #eeprom-write-lent code.function (code.unfolded 𝓤 H 𝓜 𝓡)
     (lent-meets 𝓤 H (𝓖 .A) (givenOf 𝓤 H 𝓜 𝓖) (𝓜 .mem) (𝓡 .run) (tablesOf 𝓤 H 𝓜 (tables 𝓤 H 𝓜 𝓡 code.env))
-    (cited 𝓤 H (ByValue 𝓤 H (𝓖 .A) (𝓜 .mem) (𝓡 .run)) 𝓜 𝓡 code.env #eeprom-write-chip by-value-def.routine code.calls-lent-chip·eeprom-write-chip (by-value-thm.met 𝓤 H 𝓜 𝓖 𝓡)))
+    (cited 𝓤 H (ByValue 𝓤 H (𝓖 .A) (𝓜 .mem) (𝓡 .run)) 𝓜 𝓡 code.env #eeprom-write-chip by-value-def.routine code.calls-chip-by-reference·eeprom-write-chip (by-value-thm.met 𝓤 H 𝓜 𝓖 𝓡)))

@@ -1,3 +1,4 @@
+-- `cut_call::cut` meets its contract. Assumes nothing.
 use mathlib.Core.Path.{sym, ap₂, _∙_}
 use mathlib.Core.List.{List}
 use Prim.Native.Nat.{ℕ}
@@ -14,27 +15,40 @@ use Rattle.cut_call.proofs.cut.Statement.{statement}
 use Rattle.cut_call.proofs.cut.Tie as tie
 
 slice-aggregate-save-data : tie.Need-slice-aggregate-save-data
-slice-aggregate-save-data c = sym (length-take-le _ (c .before .before .before .before .before .args .scratch .now) (c .before .before .before .before .before .pre .1 .1))
+slice-aggregate-save-data c =
+    let s = c .before .before .before .before .before in
+    sym (length-take-le _ (s .args .scratch .now) (s .pre .1 .1))
 
 slice-reshare-prefix-resume : tie.Need-slice-reshare-prefix-resume
-slice-reshare-prefix-resume c = let a = c .before .before .before .before .before .before .before .before .before .before .before .before .args in
-    let v = value-fits (a .scratch .now) (c .before .before .before .before .before .before .save-data .last .1 .1 .0) (a .cart) (a .memory .now) (c .before .before .before .before .before .before .save-data .result) (c .before .before .before .before .before .before .before .before .before .before .before .before .pre .0) (c .before .before .before .before .before .before .before .before .before .before .before .before .pre .1 .0) (c .before .before .before .before .before .before .before .before .before .before .before .before .pre .1 .1) (c .before .before .before .before .before .before .save-data .ensures) in
-    omega (arith, v, length-append (c .before .before .before .before .before .before .save-data .last .1 .1 .0) (drop (length (a .memory .now)) (a .scratch .now)))
+slice-reshare-prefix-resume c =
+    let d = c .before .before .before .before .before .before in
+    let s = d .before .before .before .before .before .before in
+    let a = s .args in
+    let left = d .save-data .last .1 .1 .0 in
+    let v = value-fits (a .scratch .now) left (a .cart) (a .memory .now) (d .save-data .result) (s .pre .0) (s .pre .1 .0) (s .pre .1 .1) (d .save-data .ensures) in
+    omega (arith, v, length-append left (drop (length (a .memory .now)) (a .scratch .now)))
 
 slice-aggregate-resume : tie.Need-slice-aggregate-resume
-slice-aggregate-resume c = let a = c .before .before .before .before .before .before .before .before .before .before .before .before .before .args in
-    let d = c .before .before .before .before .before .before .before .save-data .last .1 .1 .0 in
-    let v = value-fits (a .scratch .now) d (a .cart) (a .memory .now) (c .before .before .before .before .before .before .before .save-data .result) (c .before .before .before .before .before .before .before .before .before .before .before .before .before .pre .0) (c .before .before .before .before .before .before .before .before .before .before .before .before .before .pre .1 .0) (c .before .before .before .before .before .before .before .before .before .before .before .before .before .pre .1 .1) (c .before .before .before .before .before .before .before .save-data .ensures) in
-    sym (length-take-le _ _ (omega (arith, v, length-append d (drop (length (a .memory .now)) (a .scratch .now)))))
+slice-aggregate-resume c =
+    let d = c .before .before .before .before .before .before .before in
+    let s = d .before .before .before .before .before .before in
+    let a = s .args in
+    let left = d .save-data .last .1 .1 .0 in
+    let v = value-fits (a .scratch .now) left (a .cart) (a .memory .now) (d .save-data .result) (s .pre .0) (s .pre .1 .0) (s .pre .1 .1) (d .save-data .ensures) in
+    sym (length-take-le _ _ (omega (arith, v, length-append left (drop (length (a .memory .now)) (a .scratch .now)))))
 
 returns : tie.Need-returns
 unfolding cut
-returns c = let a = c .before .before .before .before .before .before .before .before .before .before .before .before .before .before .before .before .before .args in
-    let s = state (a .cart) (a .memory .now) in
+returns c =
+    let d = c .before .before .before .before .before .before .before .before .before .before .before in
+    let s = d .before .before .before .before .before .before in
+    let a = s .args in
     let f = fromBytes (a .image .now) (a .memory .now) .next in
     let k = c .before .before .before .before .before .before .before .chip-state .ensures (a .memory .now) in
     c .before .before .resume .ensures
-    ∙ ap₂ (λ (b : List ℕ) (t : State). restore b t .next) ((λ i. k i .0 .bytes) ∙ bytes-are s (c .before .before .before .before .before .before .before .before .before .before .before .before .before .before .before .before .before .pre .0)) (reloads (a .scratch .now) (c .before .before .before .before .before .before .before .before .before .before .before .save-data .last .1 .1 .0) (a .cart) (a .memory .now) (c .before .before .before .before .before .before .before .before .before .before .before .save-data .result) (c .before .before .before .before .before .before .before .before .before .before .before .before .before .before .before .before .before .pre .0) (c .before .before .before .before .before .before .before .before .before .before .before .before .before .before .before .before .before .pre .1 .0) (c .before .before .before .before .before .before .before .before .before .before .before .before .before .before .before .before .before .pre .1 .1) (c .before .before .before .before .before .before .before .before .before .before .before .save-data .ensures) (drop (length (a .memory .now)) (a .scratch .now)) f)
+    ∙ ap₂ (λ (b : List ℕ) (t : State). restore b t .next) ((λ i. k i .0 .bytes) ∙ bytes-are (state (a .cart) (a .memory .now)) (s .pre .0))
+    (reloads (a .scratch .now) (d .save-data .last .1 .1 .0) (a .cart) (a .memory .now) (d .save-data .result) (s .pre .0) (s .pre .1 .0) (s .pre .1 .1) (d .save-data .ensures)
+    (drop (length (a .memory .now)) (a .scratch .now)) f)
 
 pub cut-spec : {M : Type 1} → statement M
 cut-spec =

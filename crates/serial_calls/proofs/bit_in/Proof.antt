@@ -17,7 +17,7 @@ write-bit-requires : tie.Need-write-bit-requires
 write-bit-requires c κs =
     let s = c .before .before .before in
     let b = allowed-bounds (s .args .cart) (s .pre .0) in
-    (omega (arith, b .countOk), omega arith)
+    (b .limitOk, omega (arith, b .countOk), omega arith)
 
 apply-requires : tie.Need-apply-requires
 apply-requires c κs =
