@@ -20,12 +20,15 @@ use run::{Fault, Run};
 
 const USAGE: &str = "usage: beside [--seed HEX] [--fault rust | part | replay], or beside bench [WORDS OF A ROW]";
 
-fn main() {
+/// The C main function: it is not cargo but `compare/link` that makes a program of the driver.
+#[no_mangle]
+extern "C" fn main() -> i32 {
     if std::env::args().nth(1).as_deref() == Some("bench") {
         bench::run(std::env::args().nth(2).unwrap_or_default());
     } else {
         beside(arguments());
     }
+    0
 }
 
 fn beside(mut run: Run) {
