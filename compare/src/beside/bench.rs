@@ -1,10 +1,13 @@
-//! The benchmark: both sides in alternating rounds, and a table of the medians.
+//! The benchmark. Each link of the driver times the rows, both sides in alternating rounds; one of them makes a table of what all have timed.
 
 mod bytes;
 mod calls;
+mod link;
 mod placed;
+pub mod table;
 
 use crate::side::Answer;
+use link::{Row, Times};
 use std::hint::black_box;
 use std::sync::OnceLock;
 use std::time::Instant;
@@ -12,14 +15,19 @@ use std::time::Instant;
 /// Calls between two looks at the clock.
 const BATCH: u32 = 4096;
 const ROUND_SECONDS: f64 = 0.0005;
+/// Rounds in a turn, and turns. Turns are short and many: for tenths of a second the machine may be slow, and every link is to see the
+/// same of that.
+const ROUNDS: u32 = 5;
+const TURNS: u32 = 41;
+/// Turns of one round at work that takes longer than a round.
+const LONG_TURNS: u32 = 5;
 
 /// The rows that are timed have this in their names.
 static WANTED: OnceLock<String> = OnceLock::new();
 
-pub fn run(wanted: String) {
-    WANTED.get_or_init(|| wanted);
-    println!("| what | the original | the part | ratio |");
-    println!("|---|---:|---:|---:|");
+/// Comes to each row in turn, and times it whenever it is told to.
+pub fn rows(wanted: &str) {
+    WANTED.get_or_init(|| wanted.into());
     calls::rows();
     bytes::rows();
 }
@@ -38,22 +46,39 @@ fn values<T: Copy>(name: &str, values: &[T], mut original: impl FnMut(T), mut pa
     row(name, values.len() as u32, original, part);
 }
 
-/// A row. Each side's batch does the same `units` pieces of work.
+/// A row. Each side's batch does the same `units` pieces of work, and takes less than a round. Of three tries the shortest says how many
+/// batches a round has: a try may be interrupted.
 fn row(name: &str, units: u32, mut original: impl FnMut(), mut part: impl FnMut()) {
-    if !WANTED.get().is_some_and(|wanted| name.contains(wanted)) {
-        return;
+    if is_wanted(name) {
+        let mut batch = || seconds(1, &mut original).max(seconds(1, &mut part));
+        let batches = (ROUND_SECONDS / batch().min(batch()).min(batch())).ceil() as u32;
+        turns(Row { name: name.into(), turns: TURNS }, ROUNDS, batches, units, original, part);
     }
-    let batch = seconds(1, &mut original).max(seconds(1, &mut part));
-    let batches = (ROUND_SECONDS / batch).ceil() as u32;
-    let rounds = if batch < ROUND_SECONDS { 201 } else { 9 };
-    let mut times = [Vec::new(), Vec::new()];
-    for _ in 0..rounds {
-        times[0].push(seconds(batches, &mut original));
-        times[1].push(seconds(batches, &mut part));
+}
+
+/// A row of one piece of work, which takes longer than a round.
+fn long_row(name: &str, original: impl FnMut(), part: impl FnMut()) {
+    if is_wanted(name) {
+        turns(Row { name: name.into(), turns: LONG_TURNS }, 1, 1, 1, original, part);
     }
-    let [original, part] = times.map(median);
-    let of_one = |time: f64| length(time / f64::from(batches) / f64::from(units));
-    println!("| {name} | {} | {} | {:.2} |", of_one(original), of_one(part), part / original);
+}
+
+fn is_wanted(name: &str) -> bool {
+    WANTED.get().is_some_and(|wanted| name.contains(wanted))
+}
+
+/// Times the row whenever it is told to.
+fn turns(row: Row, rounds: u32, batches: u32, units: u32, mut original: impl FnMut(), mut part: impl FnMut()) {
+    link::ready(&row);
+    while link::told_to_time() {
+        let mut times = [Vec::new(), Vec::new()];
+        for _ in 0..rounds {
+            times[0].push(seconds(batches, &mut original));
+            times[1].push(seconds(batches, &mut part));
+        }
+        let [original, part] = times.map(|times| median(times) / f64::from(batches) / f64::from(units));
+        link::tell(&Times { original, part });
+    }
 }
 
 fn seconds(batches: u32, batch: &mut impl FnMut()) -> f64 {
@@ -65,14 +90,6 @@ fn seconds(batches: u32, batch: &mut impl FnMut()) -> f64 {
 fn median(mut times: Vec<f64>) -> f64 {
     times.sort_by(f64::total_cmp);
     times[times.len() / 2]
-}
-
-fn length(seconds: f64) -> String {
-    match seconds {
-        s if s < 1e-6 => format!("{:.2} ns", s * 1e9),
-        s if s < 1e-3 => format!("{:.2} µs", s * 1e6),
-        s => format!("{:.2} ms", s * 1e3),
-    }
 }
 
 /// The value of a call that has to be accepted, as a host takes it: what is refused by mistake would be timed for nothing.
