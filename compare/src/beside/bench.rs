@@ -1,4 +1,5 @@
-//! The benchmark. Each link of the driver times the rows, both sides in alternating rounds; one of them makes a table of what all have timed.
+//! The benchmark. Each link of the driver times the rows, both sides in alternating rounds. Another program of the same driver
+//! tells them when, and makes the table.
 
 mod bytes;
 mod calls;
