@@ -1,7 +1,7 @@
 //! Time per image, file and erase.
 
 use super::placed::at_lines;
-use super::{answered, row, used};
+use super::{answered, is_wanted, long_row, row, used};
 use crate::part::Part;
 use crate::part_image;
 use compare::files::file;
@@ -16,27 +16,29 @@ pub fn rows() {
     erases();
 }
 
-/// 32 MiB with the marker near the end, where most stand. The original's opening takes the CRC too.
+/// 32 MiB with the marker near the end, where most stand. The original's opening takes the CRC too. An image takes long to make, and is
+/// made only if it is wanted.
 fn images() {
     for (name, marker) in [("SRAM_V", "SRAM_V"), ("EEPROM_V", "EEPROM_V"), ("no marker", "")] {
+        let rows = ["opening", "opening and CRC", "kind"].map(|what| format!("{what}, 32 MiB, {name}"));
+        if !rows.iter().any(|row| is_wanted(row)) {
+            continue;
+        }
         let image = image(LARGEST, 7, LARGEST - 64, marker.as_bytes());
         let memory = MEMORY[usize::from(original::detect_save_type(&image))];
-        row(&format!("opening, 32 MiB, {name}"), 1, || used(original::open(&image)), || used(Part::open(&image, memory)));
-        row(
-            &format!("opening and CRC, 32 MiB, {name}"),
-            1,
+        let [opening, opening_and_crc, kind] = &rows;
+        long_row(opening, || used(original::open(&image)), || used(Part::open(&image, memory)));
+        long_row(
+            opening_and_crc,
             || used(original::open(&image)),
             || used((Part::open(&image, memory), part_image::rom_crc(&image))),
         );
-        row(
-            &format!("kind, 32 MiB, {name}"),
-            1,
-            || used(original::detect_save_type(&image)),
-            || used(part_image::detect_save_type(&image)),
-        );
+        long_row(kind, || used(original::detect_save_type(&image)), || used(part_image::detect_save_type(&image)));
     }
-    let image = image(LARGEST, 7, 0, b"");
-    row("CRC, 32 MiB", 1, || used(original::crc32(&image)), || used(part_image::rom_crc(&image)));
+    if is_wanted("CRC, 32 MiB") {
+        let image = image(LARGEST, 7, 0, b"");
+        long_row("CRC, 32 MiB", || used(original::crc32(&image)), || used(part_image::rom_crc(&image)));
+    }
 }
 
 /// Cartridges of one side that take turns: in which pages a memory lies moves the time of a copy by some hundredths.

@@ -18,14 +18,21 @@ use compare::kind;
 use pair::Pair;
 use run::{Fault, Run};
 
-const USAGE: &str = "usage: beside [--seed HEX] [--fault rust | part | replay], or beside bench [WORDS OF A ROW]";
+const USAGE: &str = "usage: beside [--seed HEX] [--fault rust | part | replay]
+       beside bench WORDS LINK... [--before LINK...]
+       beside rows WORDS";
 
-fn main() {
-    if std::env::args().nth(1).as_deref() == Some("bench") {
-        bench::run(std::env::args().nth(2).unwrap_or_default());
-    } else {
-        beside(arguments());
+/// The C main function: it is not cargo but `compare/link` that makes a program of the driver.
+#[no_mangle]
+extern "C" fn main() -> i32 {
+    let words: Vec<String> = std::env::args().skip(1).collect();
+    let words: Vec<&str> = words.iter().map(String::as_str).collect();
+    match words[..] {
+        ["bench", wanted, ref links @ ..] => bench::table::print(wanted, links),
+        ["rows", wanted] => bench::rows(wanted),
+        _ => beside(arguments(&words)),
     }
+    0
 }
 
 fn beside(mut run: Run) {
@@ -39,15 +46,14 @@ fn beside(mut run: Run) {
     println!("beside: no difference in {} calls with {} cuts, {:.0} s", run.calls, run.cuts, run.seconds());
 }
 
-fn arguments() -> Run {
+fn arguments(words: &[&str]) -> Run {
     let (mut seed, mut fault) = (1, Fault::None);
-    let mut words = std::env::args().skip(1);
-    while let Some(word) = words.next() {
-        match (word.as_str(), words.next().as_deref()) {
-            ("--seed", Some(digits)) => seed = u64::from_str_radix(digits, 16).unwrap_or_else(|_| usage()),
-            ("--fault", Some("rust")) => fault = Fault::Rust,
-            ("--fault", Some("part")) => fault = Fault::Part,
-            ("--fault", Some("replay")) => fault = Fault::Replay,
+    for pair in words.chunks(2) {
+        match pair {
+            ["--seed", digits] => seed = u64::from_str_radix(digits, 16).unwrap_or_else(|_| usage()),
+            ["--fault", "rust"] => fault = Fault::Rust,
+            ["--fault", "part"] => fault = Fault::Part,
+            ["--fault", "replay"] => fault = Fault::Replay,
             _ => usage(),
         }
     }

@@ -1,8 +1,8 @@
-//! The part's calls as the archive has them. Each answers 0 or a refusal number; a slice is a pointer and a length.
+//! The part's calls as the archives have them; `compare/link` links those. Each answers 0 or a refusal number; a slice is a
+//! pointer and a length.
 
 pub type Record = [u8; 24];
 
-#[link(name = "cart_abi", kind = "static")]
 extern "C" {
     pub fn gbasave_from_bytes(
         record: &mut Record,
@@ -54,10 +54,7 @@ extern "C" {
     pub fn gbasave_save_fit(image: *const u8, image_len: usize, length: usize, kept: &mut u32) -> u32;
     pub fn gbasave_save_size(image: *const u8, image_len: usize, size: &mut u32) -> u32;
     pub fn gbasave_memory_size(kind: u32, size: &mut u32) -> u32;
-}
 
-#[link(name = "replay", kind = "static")]
-extern "C" {
     /// Runs a list of calls, with its cuts, through the part.
     pub fn gbasave_replay(
         image: *const u8,
