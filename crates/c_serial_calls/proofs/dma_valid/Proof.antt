@@ -1,44 +1,36 @@
+-- `c_serial_calls::dma_valid` meets its contract. Assumes nothing.
+use mathlib.Core.Path.{sym, ap, _∙_}
+use Rattle.lists.proofs.Bools.{denied, granted}
+use Rattle.eeprom.specs.declared.Eeprom.{Eeprom}
+use Rattle.eeprom.specs.Eeprom.{beginDma, dmaQuestion}
+use Rattle.c_serial_calls.proofs.SerialCalls.{dma-no, dma-yes}
 use borrow.Author.Needs.{needs}
 use Rattle.c_serial_calls.proofs.dma_valid.Statement.{statement}
 use Rattle.c_serial_calls.proofs.dma_valid.Tie as tie
-use Rattle.c_serial_calls.proofs.dma_valid.Reads as reads
-use Rattle.c_serial_calls.proofs.dma_valid.Lts as lts
-use Rattle.c_record.proofs.eeprom_in.Reads as eeprom-in-reads
-use Rattle.c_record.proofs.put_width.Reads as put-width-reads
-use Rattle.eeprom.proofs.begin_dma.Reads as begin-dma-reads
-use Rattle.eeprom.proofs.dma_allowed.Reads as dma-allowed-reads
 
--- src/lib.rt:44:9
-eeprom-in-requires : tie.Need-eeprom-in-requires
-eeprom-in-requires c κs = search needs
-
--- src/lib.rt:45:9
-dma-allowed-requires : tie.Need-dma-allowed-requires
-dma-allowed-requires c κs = search needs
-
--- src/lib.rt:46:9
 returns : tie.Need-returns
-returns c = ?
+returns c =
+    let s = c .before .before .before .before in
+    let w = s .args .words in
+    λ m. dma-no (s .args .cart .now) m (s .pre) w
+    (denied _ (c .before .dma-allowed .ensures ∙ ap (λ (e : Eeprom). dmaQuestion w e .yes) (c .before .before .eeprom-in .ensures)) (c .if1 .taken))
 
--- src/lib.rt:48:9
-begin-dma-requires : tie.Need-begin-dma-requires
-begin-dma-requires c κs = search needs
-
--- src/lib.rt:49:5
-put-width-requires : tie.Need-put-width-requires
-put-width-requires c κs = search needs
-
--- src/lib.rt:40:1
 returns-2 : tie.Need-returns-2
-returns-2 c = ?
+returns-2 c =
+    let s = c .before .before .before .before .before .before .before in
+    let w = s .args .words in
+    let e = c .before .before .before .before .before .eeprom-in .ensures in
+    λ m. dma-yes (s .args .cart .now) m (s .pre) w (c .before .before .begin-dma .result)
+    (granted _ (c .before .before .before .before .dma-allowed .ensures ∙ ap (λ (x : Eeprom). dmaQuestion w x .yes) e) (c .before .before .before .if1 .left))
+    (c .before .before .begin-dma .ensures ∙ ap (beginDma w) e) (c .put-width .ensures)
 
 pub dma-valid-spec : {M : Type 1} → statement M
 dma-valid-spec =
     tie.close
     (tie.spec
-    eeprom-in-requires
-    dma-allowed-requires
+    (λ c κs. search needs)
+    (λ c κs. search needs)
     returns
-    begin-dma-requires
-    put-width-requires
+    (λ c κs. search needs)
+    (λ c κs. search needs)
     returns-2)

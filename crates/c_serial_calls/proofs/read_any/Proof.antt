@@ -1,26 +1,23 @@
+-- `c_serial_calls::read_any` meets its contract. Assumes nothing.
+use Rattle.lists.proofs.Bools.{denied, granted}
+use mathlib.Core.Path.{ap}
+use mathlib.Core.List.{[]}
+use Rattle.cart.specs.Calls.{eepromRead, step}
+use Rattle.c_record.specs.AtExit.{valueAt}
+use Rattle.c_record.proofs.Calls.{no-record}
 use borrow.Author.Needs.{needs}
 use Rattle.c_serial_calls.proofs.read_any.Statement.{statement}
 use Rattle.c_serial_calls.proofs.read_any.Tie as tie
-use Rattle.c_serial_calls.proofs.read_any.Reads as reads
-use Rattle.c_serial_calls.proofs.read_any.Lts as lts
-use Rattle.c_record.proofs.is_record.Reads as is-record-reads
-use Rattle.c_serial_calls.proofs.read_valid.Reads as read-valid-reads
 
--- src/lib.rt:172:9
-is-record-requires : tie.Need-is-record-requires
-is-record-requires c κs = search needs
-
--- src/lib.rt:173:9
 returns : tie.Need-returns
-returns c = ?
+returns c =
+    let a = c .before .before .before .before .args in
+    ap (valueAt (a .bit .now)) (no-record (step eepromRead []) [] (a .cart .now) (a .memory .now) (denied _ (c .before .is-record .ensures .0) (c .if1 .taken)))
 
--- src/lib.rt:175:5
 read-valid-requires : tie.Need-read-valid-requires
-read-valid-requires c κs = ?
-
--- src/lib.rt:167:1
-returns-2 : tie.Need-returns-2
-returns-2 c = search needs
+read-valid-requires c κs =
+    let i = c .before .before .before .is-record .ensures in
+    i .1 (granted _ (i .0) (c .before .before .if1 .left))
 
 pub read-any-spec : {M : Type 1} → statement M
-read-any-spec = tie.close (tie.spec is-record-requires returns read-valid-requires returns-2)
+read-any-spec = tie.close (tie.spec (λ c κs. search needs) returns read-valid-requires (λ c. search needs))

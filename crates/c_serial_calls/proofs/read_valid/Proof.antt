@@ -1,104 +1,80 @@
+-- `c_serial_calls::read_valid` meets its contract. Assumes nothing.
+use mathlib.Core.Path.{sym, ap, ap₂, _∙_}
+use native.Mathlib.Omega.{arith}
+use Rattle.kind.specs.Kind.{memorySize, usesEeprom}
+use Rattle.eeprom.specs.declared.Eeprom.{Eeprom}
+use Rattle.cart.proofs.Fields.{allowed-bounds}
+use Rattle.cart.proofs.Sound.{eeprom-size}
+use Rattle.c_record.specs.RecordBytes.{cartOf}
+use mathlib.Core.Bool.{Bool, false}
+use Rattle.eeprom.specs.Eeprom.{readBit}
+use Rattle.c_record.specs.Fields.{withSerial}
+use Rattle.c_serial_calls.proofs.SerialCalls.{read-3, read-nothing, read-place, read-end}
 use borrow.Author.Needs.{needs}
 use Rattle.c_serial_calls.proofs.read_valid.Statement.{statement}
 use Rattle.c_serial_calls.proofs.read_valid.Tie as tie
-use Rattle.c_serial_calls.proofs.read_valid.Reads as reads
-use Rattle.c_serial_calls.proofs.read_valid.Lts as lts
-use Rattle.c_record.proofs.eeprom_in.Reads as eeprom-in-reads
-use Rattle.c_record.proofs.kind_in.Reads as kind-in-reads
-use Rattle.c_record.proofs.put_eeprom.Reads as put-eeprom-reads
-use Rattle.c_record.proofs.put_place.Reads as put-place-reads
-use Rattle.eeprom.proofs.ended.Reads as ended-reads
-use Rattle.eeprom.proofs.draw.Reads as draw-reads
-use Rattle.eeprom.proofs.read_bit.Reads as read-bit-reads
-use Rattle.kind.proofs.memory_size.Reads as memory-size-reads
-use Rattle.kind.proofs.uses_eeprom.Reads as uses-eeprom-reads
 
--- src/lib.rt:146:9
-kind-in-requires : tie.Need-kind-in-requires
-kind-in-requires c κs = search needs
-
--- src/lib.rt:147:24
-memory-size-requires : tie.Need-memory-size-requires
-memory-size-requires c κs = search needs
-
--- src/lib.rt:148:9
 returns : tie.Need-returns
-returns c = ?
+returns c =
+    let s = c .before .before .before .before .before in
+    let z = c .before .memory-size .ensures ∙ ap memorySize (c .before .before .kind-in .ensures) in
+    read-3 (s .args .cart .now) (s .args .memory .now) (s .pre) (λ q. c .if1 .taken (q ∙ sym z)) (s .args .bit .now)
 
--- src/lib.rt:150:9
-eeprom-in-requires : tie.Need-eeprom-in-requires
-eeprom-in-requires c κs = search needs
-
--- src/lib.rt:152:21
-uses-eeprom-requires : tie.Need-uses-eeprom-requires
-uses-eeprom-requires c κs = search needs
-
--- src/lib.rt:152:12
 read-bit-requires : tie.Need-read-bit-requires
-read-bit-requires c κs = ?
+read-bit-requires c κs =
+    let s = c .before .before .before .before .before .before .before .before in
+    let b = allowed-bounds (cartOf (s .args .cart .now)) (s .pre .allowed) in
+    let e = c .before .eeprom-in .ensures in
+    let z = c .before .before .before .if1 .left ∙ c .before .before .before .before .memory-size .ensures ∙ ap memorySize (c .before .before .before .before .before .kind-in .ensures) in (
+      omega (arith, b .placeOk, ap (λ (x : Eeprom). x .place) e),
+      λ t.
+          let k = eeprom-size (cartOf (s .args .cart .now) .kind) (sym (c .uses-eeprom .ensures ∙ ap usesEeprom (c .before .before .before .before .before .kind-in .ensures)) ∙ t) in
+          omega (arith, b .blockOk, ap (λ (x : Eeprom). x .block) e, z, k),
+    )
 
--- src/lib.rt:152:12
-cast-bit : tie.Need-cast-bit
-cast-bit c = search needs
-
--- src/lib.rt:153:9
 draw-requires : tie.Need-draw-requires
-draw-requires c κs = ?
+draw-requires c κs =
+    let s = c .before .before .before .before .before .before .before .before .before in
+    omega (arith, allowed-bounds (cartOf (s .args .cart .now)) (s .pre .allowed) .placeOk, ap (λ (x : Eeprom). x .place) (c .before .before .eeprom-in .ensures))
 
--- src/lib.rt:155:27
-enum-told : tie.Need-enum-told
-enum-told c = search needs
-
--- src/lib.rt:156:22
-enum-known-d : tie.Need-enum-known-d
-enum-known-d c = search needs
-
--- src/lib.rt:157:13
-put-place-requires : tie.Need-put-place-requires
-put-place-requires c κs = search needs
-
--- src/lib.rt:161:24
-enum-told-2 : tie.Need-enum-told-2
-enum-told-2 c = search needs
-
--- src/lib.rt:161:37
-ended-requires : tie.Need-ended-requires
-ended-requires c κs = search needs
-
--- src/lib.rt:161:13
-put-eeprom-requires : tie.Need-put-eeprom-requires
-put-eeprom-requires c κs = search needs
-
--- src/lib.rt:140:1
 returns-2 : tie.Need-returns-2
-returns-2 c = ?
+returns-2 c =
+    let s = c .before .before .before .before .before .before .before .before .before .before .before .before in
+    read-nothing (s .args .cart .now) (s .args .memory .now) (s .pre) (c .before .before .before .before .before .before .before .if1 .left ∙ c .before .before .before .before .before .before .before .before .memory-size .ensures ∙ ap memorySize (c .before .before .before .before .before .before .before .before .before .kind-in .ensures)) (s .args .bit .now) _ (c .before .before .before .before .before .eeprom-in .result) (c .before .before .draw .result)
+    (c .before .before .before .before .before .eeprom-in .ensures) (c .before .before .before .read-bit .ensures ∙ ap₂ (λ (p : Bool) (x : Eeprom). readBit p x (c .before .before .before .before .before .before .before .before .before .before .before .before .args .memory .now)) (c .before .before .before .before .uses-eeprom .ensures ∙ ap usesEeprom (c .before .before .before .before .before .before .before .before .before .kind-in .ensures)) (c .before .before .before .before .before .eeprom-in .ensures)) (c .before .before .draw .ensures) (c .enum-told .given .1)
 
--- src/lib.rt:140:1
 returns-3 : tie.Need-returns-3
-returns-3 c = ?
+returns-3 c =
+    let s = c .before .before .before .before .before .before .before .before .before .before .before .before .before .before .before in
+    let g = c .before .before .before .d .given in
+    read-place (s .args .cart .now) (s .args .memory .now) (s .pre) (c .before .before .before .before .before .before .before .before .before .before .if1 .left ∙ c .before .before .before .before .before .before .before .before .before .before .before .memory-size .ensures ∙ ap memorySize (c .before .before .before .before .before .before .before .before .before .before .before .before .kind-in .ensures)) (s .args .bit .now) _ (c .before .before .before .before .before .before .before .before .eeprom-in .result) (c .before .before .before .before .before .draw .result)
+    (c .before .before .before .before .before .before .before .before .eeprom-in .ensures) (c .before .before .before .before .before .before .read-bit .ensures ∙ ap₂ (λ (p : Bool) (x : Eeprom). readBit p x (c .before .before .before .before .before .before .before .before .before .before .before .before .before .before .before .args .memory .now)) (c .before .before .before .before .before .before .before .uses-eeprom .ensures ∙ ap usesEeprom (c .before .before .before .before .before .before .before .before .before .before .before .before .kind-in .ensures)) (c .before .before .before .before .before .before .before .before .eeprom-in .ensures)) (c .before .before .before .before .before .draw .ensures) (g .0 .0) (g .1) (c .put-place .ensures)
 
--- src/lib.rt:140:1
 returns-4 : tie.Need-returns-4
-returns-4 c = ?
+returns-4 c =
+    let s = c .before .before .before .before .before .before .before .before .before .before .before .before .before .before .before in
+    read-end (s .args .cart .now) (s .args .memory .now) (s .pre) (c .before .before .before .before .before .before .before .before .before .before .if1 .left ∙ c .before .before .before .before .before .before .before .before .before .before .before .memory-size .ensures ∙ ap memorySize (c .before .before .before .before .before .before .before .before .before .before .before .before .kind-in .ensures)) (s .args .bit .now) _ (c .before .before .before .before .before .before .before .before .eeprom-in .result) (c .before .before .before .before .before .draw .result)
+    (c .before .before .before .before .before .before .before .before .eeprom-in .ensures) (c .before .before .before .before .before .before .read-bit .ensures ∙ ap₂ (λ (p : Bool) (x : Eeprom). readBit p x (c .before .before .before .before .before .before .before .before .before .before .before .before .before .before .before .args .memory .now)) (c .before .before .before .before .before .before .before .uses-eeprom .ensures ∙ ap usesEeprom (c .before .before .before .before .before .before .before .before .before .before .before .before .kind-in .ensures)) (c .before .before .before .before .before .before .before .before .eeprom-in .ensures)) (c .before .before .before .before .before .draw .ensures) (c .before .before .before .enum-told2 .given .1)
+    (c .put-eeprom .ensures ∙ ap (λ (x : Eeprom). withSerial (s .args .cart .now) false x) (c .before .ended .ensures))
 
 pub read-valid-spec : {M : Type 1} → statement M
 read-valid-spec =
     tie.close
     (tie.spec
-    kind-in-requires
-    memory-size-requires
+    (λ c κs. search needs)
+    (λ c κs. search needs)
     returns
-    eeprom-in-requires
-    uses-eeprom-requires
+    (λ c κs. search needs)
+    (λ c κs. search needs)
     read-bit-requires
-    cast-bit
+    (λ c. search needs)
     draw-requires
-    enum-told
-    enum-known-d
-    put-place-requires
-    enum-told-2
-    ended-requires
-    put-eeprom-requires
+    (λ c. search needs)
+    (λ c. search needs)
+    (λ c κs. search needs)
+    (λ c. search needs)
+    (λ c κs. search needs)
+    (λ c κs. search needs)
     returns-2
     returns-3
     returns-4)

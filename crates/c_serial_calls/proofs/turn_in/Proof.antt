@@ -1,49 +1,39 @@
+-- `c_serial_calls::turn_in` meets its contract. Assumes nothing.
+use mathlib.Core.Path.{sym, subst, ap, ap₂, _∙_}
+use mathlib.Core.Bool.{Bool}
+use mathlib.Core.List.{List, []}
+use Prim.Native.Nat.{ℕ}
+use lib.ListN.{length}
+use Rattle.memory.specs.Memory.{stored, stores, Fits}
+use Rattle.eeprom.specs.declared.EepromStep.{EepromStep}
+use Rattle.c_record.specs.Fields.{withSerial}
 use borrow.Author.Needs.{needs}
 use Rattle.c_serial_calls.proofs.turn_in.Statement.{statement}
 use Rattle.c_serial_calls.proofs.turn_in.Tie as tie
-use Rattle.c_serial_calls.proofs.turn_in.Reads as reads
-use Rattle.c_serial_calls.proofs.turn_in.Lts as lts
-use Rattle.c_record.proofs.put_eeprom.Reads as put-eeprom-reads
-use Rattle.eeprom.proofs.turn.Reads as turn-reads
-use Rattle.memory.proofs.apply.Reads as apply-reads
-use Rattle.memory.proofs.stores.Reads as stores-reads
 
--- src/lib.rt:82:9
-turn-requires : tie.Need-turn-requires
-turn-requires c κs = search needs
-
--- src/lib.rt:85:22
-stores-requires : tie.Need-stores-requires
-stores-requires c κs = search needs
-
--- src/lib.rt:85:5
-put-eeprom-requires : tie.Need-put-eeprom-requires
-put-eeprom-requires c κs = search needs
-
--- src/lib.rt:86:18
-slice-aggregate-apply : tie.Need-slice-aggregate-apply
-slice-aggregate-apply c = search needs
-
--- src/lib.rt:86:5
 apply-requires : tie.Need-apply-requires
-apply-requires c κs = ?
+apply-requires c κs =
+    let s = c .before .before .before .before .before .before .before .before in
+    subst (λ (t : EepromStep). Fits (t .store) (length (s .args .memory .now))) (sym (c .before .before .before .before .before .before .turn .ensures)) (s .pre .1)
 
--- src/lib.rt:75:1
-same-length : tie.Need-same-length
-same-length c = search needs
-
--- src/lib.rt:75:1
 returns : tie.Need-returns
-returns c = ?
+returns c =
+    let a = c .before .before .before .before .before .before .before .before .before .before .before .args in
+    let t = c .before .before .before .before .before .before .before .before .before .turn in (
+      c .before .before .before .before .before .put-eeprom .ensures
+          ∙ ap (λ (b : Bool). withSerial (a .cart .now) b (t .result .eeprom)) (c .before .before .before .before .before .before .stores .ensures)
+          ∙ ap (λ (x : EepromStep). withSerial (a .cart .now) (stores (x .store)) (x .eeprom)) (t .ensures),
+      c .before .before .apply .ensures ∙ ap (λ (x : EepromStep). stored (x .store) [] (a .memory .now)) (t .ensures),
+    )
 
 pub turn-in-spec : {M : Type 1} → statement M
 turn-in-spec =
     tie.close
     (tie.spec
-    turn-requires
-    stores-requires
-    put-eeprom-requires
-    slice-aggregate-apply
+    (λ c κs. search needs)
+    (λ c κs. search needs)
+    (λ c κs. search needs)
+    (λ c. search needs)
     apply-requires
-    same-length
+    (λ c. search needs)
     returns)
