@@ -16,16 +16,16 @@ use Rattle.eeprom.specs.declared.Shifted.the-variants.{More, Full}
 use Rattle.eeprom.specs.declared.Drawn.{Drawn}
 use Rattle.eeprom.specs.declared.Drawn.the-variants as drawn
 use Rattle.eeprom.specs.declared.EepromStep.{EepromStep}
-use Rattle.eeprom.specs.Eeprom.{wOf, countLimit, told, tells6, tells14, beginDma, dmaQuestion, serial, kept, ended, shiftIn, shifted, turned, writeBit, bitIn}
+use Rattle.eeprom.specs.Eeprom.{wOf, countLimit, told, tells6, tells14, beginDma, dmaQuestion, serial, kept, shiftIn, shifted, turned, writeBit, bitIn}
 use Rattle.eeprom.specs.Eeprom.{readBit, drawnBy, drawnFrom}
 use Rattle.eeprom.proofs.Turns.{by-turn, after-drawn}
 use Rattle.cart.specs.Calls.{eepromBeginDma, eepromWrite, eepromRead, questions, accepted}
 use Rattle.c_record.specs.RecordBytes.{recordBytes, cartOf, Valid}
 use Rattle.cart.proofs.Fields.{allowed-bounds}
-use Rattle.c_record.specs.Fields.{withWidth, withShift, withPlace, withSerial}
+use Rattle.c_record.specs.Fields.{withWidth, withShift, withPlace, withEnded, withSerial}
 use Rattle.c_record.specs.AtExit.{plain, valueAt}
 use Rattle.c_record.specs.Calls.{announces, takesBit, givesBit}
-use Rattle.c_record.proofs.FieldBytes.{serialed, put-width, put-place, put-shift, put-serial}
+use Rattle.c_record.proofs.FieldBytes.{serialed, put-width, put-place, put-ended, put-shift, put-serial}
 use Rattle.c_record.proofs.Calls.{memory-no, memory-yes, refused, done}
 
 -- a DMA announcement tells a width and large, and nothing else
@@ -124,8 +124,5 @@ module _ (r m : List ℕ) (v : Valid r) where
       pub read-place : (q : ℕ) {r' : List ℕ} → d ≡ drawn.Place q → r' ≡ withPlace r q → (0, r', m, bit) ≡ givesBit r m place
       read-place q g p = drew (drawn.Place q) g (p ∙ ap (λ (l : List ℕ). withPlace l q) (sym (v .back)) ∙ put-place (cartOf r) q)
 
-      pub read-end : {r' : List ℕ} → d ≡ drawn.Ended → r' ≡ withSerial r false (ended chip) → (0, r', m, bit) ≡ givesBit r m place
-      read-end g p =
-          drew drawn.Ended g
-          (p ∙ ap (λ (z : Eeprom). withSerial r false (ended z)) c ∙ ap (λ (l : List ℕ). withSerial l false (ended e)) (sym (v .back))
-          ∙ put-serial (cartOf r) false (ended e))
+      pub read-end : {r' : List ℕ} → d ≡ drawn.Ended → r' ≡ withEnded r → (0, r', m, bit) ≡ givesBit r m place
+      read-end g p = drew drawn.Ended g (p ∙ ap withEnded (sym (v .back)) ∙ put-ended (cartOf r))

@@ -5,6 +5,7 @@ use c_record::eeprom_in;
 use c_record::is_record;
 use c_record::kind_in;
 use c_record::put_eeprom;
+use c_record::put_ended;
 use c_record::put_place;
 use c_record::put_shift;
 use c_record::put_width;
@@ -14,7 +15,6 @@ use eeprom::Shifted;
 use eeprom::begin_dma;
 use eeprom::dma_allowed;
 use eeprom::draw;
-use eeprom::ended;
 use eeprom::read_bit;
 use eeprom::shift;
 use eeprom::turn;
@@ -158,7 +158,7 @@ fn read_valid(cart: &mut RecordBytes, memory: &[u8], bit: &mut u32) -> u32
             0
         }
         Drawn::Ended => {
-            put_eeprom(cart, false, ended(e));
+            put_ended(cart);
             0
         }
     }

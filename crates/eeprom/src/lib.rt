@@ -149,7 +149,7 @@ fn serial(e: Eeprom, phase: EepromPhase, count: u8, block: u16, place: u8, acc: 
 }
 
 // A read is over or abandoned.
-pub fn ended(e: Eeprom) -> Eeprom
+fn ended(e: Eeprom) -> Eeprom
     ensures { λ r. ⌜ r ≡ ended·spec e ⌝ }
 {
     serial(e, EepromPhase::Opcode, 0, e.block, 0, 0)

@@ -6,9 +6,8 @@ use Rattle.eeprom.specs.declared.Eeprom.{Eeprom}
 use Rattle.cart.proofs.Fields.{allowed-bounds}
 use Rattle.cart.proofs.Sound.{eeprom-size}
 use Rattle.c_record.specs.RecordBytes.{cartOf}
-use mathlib.Core.Bool.{Bool, false}
+use mathlib.Core.Bool.{Bool}
 use Rattle.eeprom.specs.Eeprom.{readBit}
-use Rattle.c_record.specs.Fields.{withSerial}
 use Rattle.c_serial_calls.proofs.SerialCalls.{read-3, read-nothing, read-place, read-end}
 use borrow.Author.Needs.{needs}
 use Rattle.c_serial_calls.proofs.read_valid.Statement.{statement}
@@ -52,10 +51,10 @@ returns-3 c =
 
 returns-4 : tie.Need-returns-4
 returns-4 c =
-    let s = c .before .before .before .before .before .before .before .before .before .before .before .before .before .before .before in
-    read-end (s .args .cart .now) (s .args .memory .now) (s .pre) (c .before .before .before .before .before .before .before .before .before .before .if1 .left ∙ c .before .before .before .before .before .before .before .before .before .before .before .memory-size .ensures ∙ ap memorySize (c .before .before .before .before .before .before .before .before .before .before .before .before .kind-in .ensures)) (s .args .bit .now) _ (c .before .before .before .before .before .before .before .before .eeprom-in .result) (c .before .before .before .before .before .draw .result)
-    (c .before .before .before .before .before .before .before .before .eeprom-in .ensures) (c .before .before .before .before .before .before .read-bit .ensures ∙ ap₂ (λ (p : Bool) (x : Eeprom). readBit p x (c .before .before .before .before .before .before .before .before .before .before .before .before .before .before .before .args .memory .now)) (c .before .before .before .before .before .before .before .uses-eeprom .ensures ∙ ap usesEeprom (c .before .before .before .before .before .before .before .before .before .before .before .before .kind-in .ensures)) (c .before .before .before .before .before .before .before .before .eeprom-in .ensures)) (c .before .before .before .before .before .draw .ensures) (c .before .before .before .enum-told2 .given .1)
-    (c .put-eeprom .ensures ∙ ap (λ (x : Eeprom). withSerial (s .args .cart .now) false x) (c .before .ended .ensures))
+    let s = c .before .before .before .before .before .before .before .before .before .before .before .before .before .before in
+    read-end (s .args .cart .now) (s .args .memory .now) (s .pre) (c .before .before .before .before .before .before .before .before .before .if1 .left ∙ c .before .before .before .before .before .before .before .before .before .before .memory-size .ensures ∙ ap memorySize (c .before .before .before .before .before .before .before .before .before .before .before .kind-in .ensures)) (s .args .bit .now) _ (c .before .before .before .before .before .before .before .eeprom-in .result) (c .before .before .before .before .draw .result)
+    (c .before .before .before .before .before .before .before .eeprom-in .ensures) (c .before .before .before .before .before .read-bit .ensures ∙ ap₂ (λ (p : Bool) (x : Eeprom). readBit p x (c .before .before .before .before .before .before .before .before .before .before .before .before .before .before .args .memory .now)) (c .before .before .before .before .before .before .uses-eeprom .ensures ∙ ap usesEeprom (c .before .before .before .before .before .before .before .before .before .before .before .kind-in .ensures)) (c .before .before .before .before .before .before .before .eeprom-in .ensures)) (c .before .before .before .before .draw .ensures) (c .before .before .enum-told2 .given .1)
+    (c .put-ended .ensures)
 
 pub read-valid-spec : {M : Type 1} → statement M
 read-valid-spec =
@@ -73,7 +72,6 @@ read-valid-spec =
     (λ c. search needs)
     (λ c κs. search needs)
     (λ c. search needs)
-    (λ c κs. search needs)
     (λ c κs. search needs)
     returns-2
     returns-3
