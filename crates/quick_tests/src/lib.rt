@@ -113,23 +113,20 @@ fn fields_usual(cart: &RecordBytes) -> bool
     fields_usual_in(&cart[..])
 }
 
-// The count of each phase. Data bits come first: most bits are theirs.
+// The count is below the limit of its phase.
 fn count_usual(phase: u8, count: u8, width: u8, large: bool) -> bool
     ensures { λ b. ⌜ (b ≡ true → CountAllowed phase count width large) ⌝ }
 {
-    if phase == 3 {
-        return count < 64;
-    }
     if count == 0 {
         return phase <= 6;
+    }
+    if phase == 3 {
+        return count < 64;
     }
     if phase == 0 {
         return count < 2;
     }
     if 3 < phase {
-        return false;
-    }
-    if 64 < count {
         return false;
     }
     count < w(width, large)
