@@ -132,12 +132,12 @@ fn count_usual(phase: u8, count: u8, width: u8, large: bool) -> bool
     count < w(width, large)
 }
 
-// For the serial calls: the flash chip is at rest.
+// For the serial calls: the flash chip is at rest. The count comes first, so that the test needs no register that has to be saved.
 pub fn serial_usual(cart: &RecordBytes) -> bool
     ensures { λ b. ⌜ (b ≡ true → isKnown (now (cart .entry)) ≡ true → isRecord (now (cart .entry)) ≡ true) ⌝ }
 {
-    if !fields_usual(cart) {
+    if !count_usual(cart[PHASE], cart[COUNT], cart[WIDTH], cart[LARGE] == 1) {
         return false;
     }
-    count_usual(cart[PHASE], cart[COUNT], cart[WIDTH], cart[LARGE] == 1)
+    fields_usual(cart)
 }
