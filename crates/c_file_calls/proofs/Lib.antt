@@ -1,4 +1,1 @@
-pub mod Large
-pub mod Loads
-pub mod Imports
-pub mod Exports
+pub mod FileCalls

@@ -1,124 +1,70 @@
-// `load_save`, `save_data` and import on the 24 bytes of a record as they are lent.
+// `load_save`, `save_data` and import on the bytes of a record.
+
+use c_record::LARGE;
+use c_record::RecordBytes;
 use c_record::is_record;
-use file_bytes::copy_file;
+use c_record::kind_in;
+use c_record::put_large;
 use file_calls::file_length;
+use file_calls::large_after;
 use file_sizes::kept_part;
 use file_sizes::takes;
-use kind::kind_of;
 use kind::memory_size;
-use kind::uses_eeprom;
-use quick_tests::fresh_usual;
-use quick_tests::known;
-use quick_tests::serial_usual;
+use memory::Store;
+use memory::apply;
+use memory::copy_file;
 ghost use mathlib.Core.Path.{_≡_};
-ghost use mathlib.Core.Bool.{true, _||_, _&&_};
 ghost use mathlib.Core.List.{[]};
-ghost use Prim.Native.Nat.{_≤_};
-ghost use lib.Dec.{eqb, ltb};
-ghost use lib.ListN.{length, getD, set};
-ghost use Rattle.kind.specs.Kind.{kindOf};
-ghost use Rattle.kind.specs.Kind.{memorySize, usesEeprom};
-ghost use Rattle.cart.specs.ChipState.{bit};
-ghost use Rattle.cart.specs.Record.{recordAllowed};
-ghost use Rattle.cart.specs.Calls.{load as load·spec, loadSave, importSave, step};
-ghost use Rattle.c_record.specs.RecordBytes.{recordBytes, cartOf, isRecord, stateOf, bytesOf};
-ghost use Rattle.c_record.specs.Abi.{called, calledAt, exportAt};
+ghost use lib.ListN.{length};
+ghost use Rattle.kind.specs.Kind.{memorySize};
+ghost use Rattle.cart.specs.Calls.{loadSave, accepted};
+ghost use Rattle.c_record.specs.RecordBytes.{cartOf, Valid, stateOf};
+ghost use Rattle.c_record.specs.AtExit.{left, plain};
+ghost use Rattle.c_record.specs.Calls.{loads, exports, imports};
 
-// Question 2, of the usual records quickly.
-fn is_record_quick(cart: &[u8; 24]) -> bool
-    ensures { λ b. ⌜ b ≡ isRecord (now (cart .entry)) ⌝ }
-    ensures { λ _. ⌜ (isRecord (now (cart .entry)) ≡ true → (recordAllowed (cartOf (now (cart .entry))) ≡ true) × (recordBytes (cartOf (now (cart .entry))) ≡ now (cart .entry))) ⌝ }
+// An accepted load: of the record only `large` may change. The memory comes last, so that nothing stays live across it.
+fn load_valid(cart: &mut RecordBytes, memory: &mut [u8], file: &[u8])
+    requires { ⌜ Valid (now cart) × (length (now memory) ≡ memorySize (cartOf (now cart) .kind)) ⌝ }
+    ensures { λ _. ⌜
+        (0, now (cart .exit), now (memory .exit))
+        ≡ plain (left (accepted (loadSave (now (file .entry))) []
+        (stateOf (now (cart .entry)) (now (memory .entry))))) ⌝ }
 {
-    if !known(cart) {
-        return is_record(cart);
-    }
-    if serial_usual(cart) {
-        return true;
-    }
-    is_record(cart)
+    let large = cart[LARGE] == 1;
+    let next = large_after(kind_in(cart), large, file.len());
+    put_large(cart, large, next);
+    apply(Store::File, file, memory);
 }
 
-// `large` behind a file of n bytes. Where it stays nothing is stored: the next call's test, which reads wider, would wait for it.
-fn grow(cart: &mut [u8], n: usize)
-    requires { ⌜ (length (now cart) ≡ 24) × (getD (now cart) 10 0 ≤ 1) ⌝ }
-    ensures { λ _. ⌜ now (cart .exit) ≡ set (now (cart .entry)) 10 (bit (eqb (getD (now (cart .entry)) 10 0) 1 || usesEeprom (kindOf (getD (now (cart .entry)) 4 0)) && ltb 512 n)) ⌝ }
-{
-    if !uses_eeprom(kind_of(cart[4])) {
-        return;
-    }
-    if n <= 512 {
-        return;
-    }
-    if cart[10] == 1 {
-        return;
-    }
-    cart[10] = 1;
-}
-
-// A file loaded, questions 2 and 3 answered yes: of the record only `large` may change.
-fn load_in_place(cart: &mut [u8], memory: &mut [u8], file: &[u8])
-    requires { ⌜ (length (now cart) ≡ 24) × (recordBytes (cartOf (now cart)) ≡ now cart) × (length (now memory) ≡ memorySize (kindOf (getD (now cart) 4 0))) ⌝ }
-    ensures { λ _. ⌜ (now (cart .exit), now (memory .exit)) ≡ bytesOf (load·spec (stateOf (now (cart .entry)) (now (memory .entry))) (now (file .entry))) ⌝ }
-{
-    file_bytes::load(memory, file);
-    grow(cart, file.len());
-}
-
-fn load_any(cart: &mut [u8; 24], memory: &mut [u8], file: &[u8]) -> u32
-    ensures { λ x. ⌜ (x, now (cart .exit), now (memory .exit)) ≡ called (step (loadSave (now (file .entry))) []) (now (cart .entry)) (now (memory .entry)) ⌝ }
+pub fn load_save(cart: &mut RecordBytes, memory: &mut [u8], file: &[u8]) -> u32
+    ensures { λ x. ⌜
+        (x, now (cart .exit), now (memory .exit))
+        ≡ loads (now (file .entry)) (now (cart .entry)) (now (memory .entry)) ⌝ }
 {
     if !is_record(cart) {
         return 2;
     }
-    if memory.len() != memory_size(kind_of(cart[4])) {
+    if memory.len() != memory_size(kind_in(cart)) {
         return 3;
     }
-    // cut anew, the file is handed over in registers
-    load_in_place(&mut cart[..], memory, &file[..]);
+    // a slice cut anew is passed in registers
+    load_valid(cart, memory, &file[..]);
     0
 }
 
-// Says yes only where questions 2 and 3 do: an EEPROM as opening leaves it, and its memory.
-fn load_usual(cart: &[u8; 24], memory: usize) -> bool
-    ensures { λ b. ⌜ (b ≡ true → (isRecord (now (cart .entry)) ≡ true) × (recordAllowed (cartOf (now (cart .entry))) ≡ true) × (recordBytes (cartOf (now (cart .entry))) ≡ now (cart .entry)) × (memory ≡ memorySize (kindOf (getD (now (cart .entry)) 4 0)))) ⌝ }
+pub fn save_data(cart: &RecordBytes, memory: &[u8], destination: &mut [u8], length: &mut u32) -> u32
+    ensures { λ x. ⌜
+        (x, now (cart .entry), now (memory .entry), now (destination .exit), now (length .exit))
+        ≡ exports (now (destination .entry)) (now (cart .entry)) (now (memory .entry)) (now (length .entry)) ⌝ }
 {
-    if memory != 8192 {
-        return false;
-    }
-    if !uses_eeprom(kind_of(cart[4])) {
-        return false;
-    }
-    if !known(cart) {
-        return false;
-    }
-    fresh_usual(cart)
-}
-
-// An EEPROM's short file leaves the record, and is soon loaded: the questions are asked quickly.
-pub fn load_save(cart: &mut [u8; 24], memory: &mut [u8], file: &[u8]) -> u32
-    ensures { λ x. ⌜ (x, now (cart .exit), now (memory .exit)) ≡ called (step (loadSave (now (file .entry))) []) (now (cart .entry)) (now (memory .entry)) ⌝ }
-{
-    if 512 < file.len() {
-        return load_any(cart, memory, file);
-    }
-    if !load_usual(cart, memory.len()) {
-        return load_any(cart, memory, file);
-    }
-    file_bytes::load(memory, file);
-    0
-}
-
-pub fn save_data(cart: &[u8; 24], memory: &[u8], destination: &mut [u8], length: &mut u32) -> u32
-    ensures { λ x. ⌜ (x, now (cart .entry), now (memory .entry), now (destination .exit), now (length .exit)) ≡ exportAt (now (cart .entry)) (now (memory .entry)) (now (destination .entry)) (now (length .entry)) ⌝ }
-{
-    if !is_record_quick(cart) {
+    if !is_record(cart) {
         return 2;
     }
-    let kind = kind_of(cart[4]);
+    let kind = kind_in(cart);
     if memory.len() != memory_size(kind) {
         return 3;
     }
-    let n = file_length(kind, cart[10] == 1);
+    let n = file_length(kind, cart[LARGE] == 1);
     if destination.len() < n {
         return 13;
     }
@@ -127,13 +73,16 @@ pub fn save_data(cart: &[u8; 24], memory: &[u8], destination: &mut [u8], length:
     0
 }
 
-pub fn import_save(cart: &mut [u8; 24], memory: &mut [u8], file: &[u8], kept: &mut u32) -> u32
-    ensures { λ x. ⌜ (x, now (cart .exit), now (memory .exit), now (kept .exit)) ≡ calledAt (importSave (now (file .entry))) (now (cart .entry)) (now (memory .entry)) (now (kept .entry)) ⌝ }
+// The part of the file that the kind keeps is loaded, and its length answered.
+pub fn import_save(cart: &mut RecordBytes, memory: &mut [u8], file: &[u8], kept: &mut u32) -> u32
+    ensures { λ x. ⌜
+        (x, now (cart .exit), now (memory .exit), now (kept .exit))
+        ≡ imports (now (file .entry)) (now (cart .entry)) (now (memory .entry)) (now (kept .entry)) ⌝ }
 {
-    if !is_record_quick(cart) {
+    if !is_record(cart) {
         return 2;
     }
-    let kind = kind_of(cart[4]);
+    let kind = kind_in(cart);
     if memory.len() != memory_size(kind) {
         return 3;
     }
@@ -141,7 +90,7 @@ pub fn import_save(cart: &mut [u8; 24], memory: &mut [u8], file: &[u8], kept: &m
         return 14;
     }
     let part = kept_part(kind, file);
-    load_in_place(&mut cart[..], memory, part);
+    load_valid(cart, memory, part);
     *kept = part.len() as u32;
     0
 }

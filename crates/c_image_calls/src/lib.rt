@@ -16,21 +16,27 @@ ghost use Rattle.title.specs.Title.{headerTitle};
 ghost use Rattle.crc.specs.Crc.{romCrc};
 
 pub fn read(image: &[u8], address: u32, value: &mut u32) -> u32
-    ensures { λ x. ⌜ (x, now (value .exit)) ≡ answeredAt (read·spec 1 (now (image .entry)) address) (now (value .entry)) ⌝ }
+    ensures { λ x. ⌜
+        (x, now (value .exit))
+        ≡ answeredAt (read·spec 1 (now (image .entry)) address) (now (value .entry)) ⌝ }
 {
     let byte = image::read(image, address);
     tell(byte.refusal, byte.value, value)
 }
 
 pub fn read16(image: &[u8], address: u32, value: &mut u32) -> u32
-    ensures { λ x. ⌜ (x, now (value .exit)) ≡ answeredAt (read·spec 2 (now (image .entry)) address) (now (value .entry)) ⌝ }
+    ensures { λ x. ⌜
+        (x, now (value .exit))
+        ≡ answeredAt (read·spec 2 (now (image .entry)) address) (now (value .entry)) ⌝ }
 {
     let half = image::read16(image, address);
     tell(half.refusal, half.value, value)
 }
 
 pub fn read32(image: &[u8], address: u32, value: &mut u32) -> u32
-    ensures { λ x. ⌜ (x, now (value .exit)) ≡ answeredAt (read·spec 4 (now (image .entry)) address) (now (value .entry)) ⌝ }
+    ensures { λ x. ⌜
+        (x, now (value .exit))
+        ≡ answeredAt (read·spec 4 (now (image .entry)) address) (now (value .entry)) ⌝ }
 {
     let word = image::read32(image, address);
     tell(word.refusal, word.value, value)
@@ -44,7 +50,9 @@ pub fn header_checksum(image: &[u8], value: &mut u32) -> u32
 }
 
 pub fn title(image: &[u8], destination: &mut [u8], length: &mut u32) -> u32
-    ensures { λ x. ⌜ (x, now (destination .exit), now (length .exit)) ≡ titleAt (headerTitle (now (image .entry)) (now (destination .entry))) (now (length .entry)) ⌝ }
+    ensures { λ x. ⌜
+        (x, now (destination .exit), now (length .exit))
+        ≡ titleAt (headerTitle (now (image .entry)) (now (destination .entry))) (now (length .entry)) ⌝ }
 {
     let title = header_title(image, destination);
     tell(title.refusal, title.value, length)

@@ -11,12 +11,12 @@ use Rattle.lists.proofs.Digits.{low-bytes}
 use Rattle.kind.specs.Kind.{kindNumber}
 use Rattle.flash.specs.declared.Flash.{Flash}
 use Rattle.eeprom.specs.declared.Eeprom.{Eeprom}
-use Rattle.eeprom.specs.Eeprom.{told, serial}
+use Rattle.eeprom.specs.Eeprom.{told, serial, ended}
 use Rattle.cart.specs.declared.Cartridge.{Cartridge}
 use Rattle.cart.specs.ChipState.{bit, phaseNumber, chipBytes, chipOf}
 use Rattle.cart.specs.Replies.{chipRecord, cartWith}
 use Rattle.c_record.specs.RecordBytes.{recordBytes, cartOf, Valid}
-use Rattle.c_record.specs.Fields.{withFlash, withId, withWidth, withLarge, withAcc, withShift, withPlace, withSerial}
+use Rattle.c_record.specs.Fields.{withFlash, withId, withWidth, withLarge, withAcc, withShift, withPlace, withEnded, withSerial}
 
 pub flash-read : (r : List ℕ) → record { state = getD r 6 0; bank = getD r 7 0; id = eqb (getD r 8 0) 1 } ≡ cartOf r .chip .flash
 unfolding cartOf chipOf
@@ -58,6 +58,10 @@ module _ (c : Cartridge) where
       withPlace (recordBytes c) place ≡ recordBytes (serialed c (c .dirty) (serial e (e .phase) (e .count) (e .block) place (e .acc)))
   unfolding recordBytes lowFirst chipBytes
   put-place place = refl
+
+  pub put-ended : withEnded (recordBytes c) ≡ recordBytes (serialed c (c .dirty) (ended (c .chip .eeprom)))
+  unfolding recordBytes lowFirst chipBytes
+  put-ended = refl
 
   -- the bytes but for acc's
   abbrev spelled : ℕ → ℕ → Bool → ℕ → ℕ → ℕ → ℕ → ℕ → List ℕ → List ℕ

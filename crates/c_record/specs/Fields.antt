@@ -68,6 +68,9 @@ withShift r count acc = withAcc (set r countAt count) acc
 abbrev pub withPlace : List ℕ → ℕ → List ℕ
 withPlace r place = set r placeAt place
 
+abbrev pub withEnded : List ℕ → List ℕ
+withEnded r = withAcc (set (set (set r phaseAt 0) countAt 0) placeAt 0) 0
+
 -- the EEPROM after a bit that ends a phase, and the flag
 abbrev pub withSerial : List ℕ → Bool → Eeprom → List ℕ
 withSerial r sets e =

@@ -28,6 +28,7 @@ pub use layout::RecordBytes;
 pub use layout::WIDTH;
 use lists::low32;
 pub use outward::put_eeprom;
+pub use outward::put_ended;
 pub use outward::put_flash;
 pub use outward::put_id;
 pub use outward::put_large;

@@ -25,7 +25,7 @@ ghost use lib.ListN.{getD, set};
 ghost use Rattle.cart.specs.ChipState.{bit as bit·spec};
 ghost use Rattle.c_record.specs.RecordBytes.{recordBytes};
 ghost use Rattle.c_record.specs.Fields.{idAt, largeAt, withFlash, withId, withWidth, withLarge};
-ghost use Rattle.c_record.specs.Fields.{withAcc, withShift, withPlace, withSerial};
+ghost use Rattle.c_record.specs.Fields.{withAcc, withShift, withPlace, withEnded, withSerial};
 
 fn flag_after(sets: bool, flag: u8) -> u8
     ensures { λ r. ⌜ r ≡ cond sets 1 flag ⌝ }
@@ -112,6 +112,16 @@ pub fn put_place(cart: &mut RecordBytes, place: u8)
     ensures { λ _. ⌜ now (cart .exit) ≡ withPlace (now (cart .entry)) place ⌝ }
 {
     cart[PLACE] = place;
+}
+
+// A read is over: phase, count, read place and acc are 0.
+pub fn put_ended(cart: &mut RecordBytes)
+    ensures { λ _. ⌜ now (cart .exit) ≡ withEnded (now (cart .entry)) ⌝ }
+{
+    cart[PHASE] = 0;
+    cart[COUNT] = 0;
+    cart[PLACE] = 0;
+    put_acc(cart, 0);
 }
 
 // The EEPROM after a bit that ends a phase, and the flag.

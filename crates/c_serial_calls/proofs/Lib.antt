@@ -1,1 +1,1 @@
-pub mod QuickBits
+pub mod SerialCalls

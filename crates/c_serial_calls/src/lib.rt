@@ -1,95 +1,190 @@
-// `eeprom_write` and `eeprom_read` on the 24 bytes of a record. In front of each stands the quick test of a usual record; a
-// function `_any` is of every record, and called last, so that the quick way pays nothing for it.
-use bits_in_place::draw_in_place;
-use bits_in_place::shift_in_place;
-use bits_in_place::step_in_place;
-use c_record::cart_of;
+// `eeprom_begin_dma`, `eeprom_write` and `eeprom_read` on the bytes of a record. In front of question 2 is the quick test; a function `_any` is
+// for every record. It is called last and at two places, so that the compiler leaves it out of line and the quick way pays nothing for it.
+use c_record::RecordBytes;
+use c_record::eeprom_in;
 use c_record::is_record;
-use c_record::write_back;
-use kind::kind_of;
+use c_record::kind_in;
+use c_record::put_eeprom;
+use c_record::put_ended;
+use c_record::put_place;
+use c_record::put_shift;
+use c_record::put_width;
+use eeprom::Drawn;
+use eeprom::Eeprom;
+use eeprom::Shifted;
+use eeprom::begin_dma;
+use eeprom::dma_allowed;
+use eeprom::draw;
+use eeprom::read_bit;
+use eeprom::shift;
+use eeprom::turn;
+use eeprom::w;
 use kind::memory_size;
 use kind::uses_eeprom;
-use out_params::tell;
+use memory::NO_FILE;
+use memory::apply;
+use memory::stores;
 use quick_tests::known;
 use quick_tests::serial_usual;
-use quick_tests::shift_usual;
 ghost use mathlib.Core.Path.{_≡_};
-ghost use mathlib.Core.List.{[]};
-ghost use Rattle.cart.specs.Calls.{eepromWrite, eepromRead, step};
-ghost use Rattle.c_record.specs.Abi.{called, calledAt};
+ghost use mathlib.Core.List.{List, []};
+ghost use Prim.Native.Nat.{ℕ, _<_};
+ghost use lib.ListN.{length};
+ghost use Rattle.memory.specs.Memory.{stored, stores as stores·spec, Fits};
+ghost use Rattle.eeprom.specs.Eeprom.{turned};
+ghost use Rattle.c_record.specs.RecordBytes.{Valid};
+ghost use Rattle.c_record.specs.Fields.{withSerial};
+ghost use Rattle.c_record.specs.Calls.{announces, takesBit, givesBit};
 
-fn write_any(cart: &mut [u8; 24], memory: &mut [u8], value: u16) -> u32
-    ensures { λ x. ⌜ (x, now (cart .exit), now (memory .exit)) ≡ called (step (eepromWrite value) []) (now (cart .entry)) (now (memory .entry)) ⌝ }
+// Takes no memory; the contract holds for any memory.
+fn dma_valid(cart: &mut RecordBytes, words: u32) -> u32
+    requires { ⌜ Valid (now cart) ⌝ }
+    ensures { λ x. ⌜ ((m : List ℕ) → (x, now (cart .exit), m) ≡ announces words (now (cart .entry)) m) ⌝ }
+{
+    let e = eeprom_in(cart);
+    if !dma_allowed(words as usize, e) {
+        return 5;
+    }
+    let next = begin_dma(words as usize, e);
+    put_width(cart, next.width, next.large);
+    0
+}
+
+fn dma_any(cart: &mut RecordBytes, words: u32) -> u32
+    ensures { λ x. ⌜ ((m : List ℕ) → (x, now (cart .exit), m) ≡ announces words (now (cart .entry)) m) ⌝ }
 {
     if !is_record(cart) {
         return 2;
     }
-    let kind = kind_of(cart[4]);
+    dma_valid(cart, words)
+}
+
+pub fn eeprom_begin_dma(cart: &mut RecordBytes, words: u32) -> u32
+    ensures { λ x. ⌜ ((m : List ℕ) → (x, now (cart .exit), m) ≡ announces words (now (cart .entry)) m) ⌝ }
+{
+    if !known(cart) {
+        return dma_any(cart, words);
+    }
+    if !serial_usual(cart) {
+        return dma_any(cart, words);
+    }
+    dma_valid(cart, words)
+}
+
+// A bit that ends a phase. The record is updated first, so that nothing stays live across the store.
+fn turn_in(cart: &mut RecordBytes, memory: &mut [u8], e: Eeprom, acc: u64, b: u64)
+    requires { ⌜ (b < 2) × Fits (turned e acc b .store) (length (now memory)) ⌝ }
+    ensures { λ _. ⌜
+        now (cart .exit)
+        ≡ withSerial (now (cart .entry)) (stores·spec (turned e acc b .store)) (turned e acc b .eeprom) ⌝ }
+    ensures { λ _. ⌜ now (memory .exit) ≡ stored (turned e acc b .store) [] (now (memory .entry)) ⌝ }
+{
+    let t = turn(e, acc, b);
+    let store = t.store;
+    let next = t.eeprom;
+    put_eeprom(cart, stores(store), next);
+    apply(store, &NO_FILE, memory);
+}
+
+fn write_valid(cart: &mut RecordBytes, memory: &mut [u8], value: u16) -> u32
+    requires { ⌜ Valid (now cart) ⌝ }
+    ensures { λ x. ⌜
+        (x, now (cart .exit), now (memory .exit)) ≡ takesBit value (now (cart .entry)) (now (memory .entry)) ⌝ }
+{
+    let kind = kind_in(cart);
     if memory.len() != memory_size(kind) {
         return 3;
     }
     if !uses_eeprom(kind) {
         return 4;
     }
-    step_in_place(&mut cart[..], &mut memory[..], value);
-    0
+    let b = (value % 2) as u64;
+    let e = eeprom_in(cart);
+    let phase = e.phase;
+    let s = shift(phase, e.count, w(e.width, e.large), e.acc, b);
+    match s {
+        Shifted::More(acc, count) => {
+            put_shift(cart, count, acc);
+            0
+        }
+        Shifted::Full(acc) => {
+            turn_in(cart, memory, e, acc, b);
+            0
+        }
+    }
 }
 
-pub fn eeprom_write(cart: &mut [u8; 24], memory: &mut [u8], value: u16) -> u32
-    ensures { λ x. ⌜ (x, now (cart .exit), now (memory .exit)) ≡ called (step (eepromWrite value) []) (now (cart .entry)) (now (memory .entry)) ⌝ }
-{
-    if memory.len() != 8192 {
-        return write_any(cart, memory, value);
-    }
-    if !known(cart) {
-        return write_any(cart, memory, value);
-    }
-    if !uses_eeprom(kind_of(cart[4])) {
-        return write_any(cart, memory, value);
-    }
-    if !shift_usual(cart) {
-        return write_any(cart, memory, value);
-    }
-    shift_in_place(&mut cart[..], value);
-    0
-}
-
-fn read_any(cart: &mut [u8; 24], memory: &[u8], bit: &mut u32) -> u32
-    ensures { λ x. ⌜ (x, now (cart .exit), now (memory .entry), now (bit .exit)) ≡ calledAt (step eepromRead []) (now (cart .entry)) (now (memory .entry)) (now (bit .entry)) ⌝ }
+fn write_any(cart: &mut RecordBytes, memory: &mut [u8], value: u16) -> u32
+    ensures { λ x. ⌜
+        (x, now (cart .exit), now (memory .exit)) ≡ takesBit value (now (cart .entry)) (now (memory .entry)) ⌝ }
 {
     if !is_record(cart) {
         return 2;
     }
-    let drawn = serial_calls::eeprom_read(cart_of(cart), &memory[..]);
-    write_back(drawn, cart);
-    tell(drawn.refusal, drawn.value, bit)
+    write_valid(cart, &mut memory[..], value)
 }
 
-pub fn eeprom_read(cart: &mut [u8; 24], memory: &[u8], bit: &mut u32) -> u32
-    ensures { λ x. ⌜ (x, now (cart .exit), now (memory .entry), now (bit .exit)) ≡ calledAt (step eepromRead []) (now (cart .entry)) (now (memory .entry)) (now (bit .entry)) ⌝ }
+pub fn eeprom_write(cart: &mut RecordBytes, memory: &mut [u8], value: u16) -> u32
+    ensures { λ x. ⌜
+        (x, now (cart .exit), now (memory .exit)) ≡ takesBit value (now (cart .entry)) (now (memory .entry)) ⌝ }
 {
-    if memory.len() != 8192 {
-        return read_any(cart, memory, bit);
-    }
     if !known(cart) {
-        return read_any(cart, memory, bit);
+        return write_any(cart, memory, value);
     }
-    if !uses_eeprom(kind_of(cart[4])) {
+    if !serial_usual(cart) {
+        return write_any(cart, memory, value);
+    }
+    write_valid(cart, memory, value)
+}
+
+fn read_valid(cart: &mut RecordBytes, memory: &[u8], bit: &mut u32) -> u32
+    requires { ⌜ Valid (now cart) ⌝ }
+    ensures { λ x. ⌜
+        (x, now (cart .exit), now (memory .entry), now (bit .exit))
+        ≡ givesBit (now (cart .entry)) (now (memory .entry)) (now (bit .entry)) ⌝ }
+{
+    let kind = kind_in(cart);
+    if memory.len() != memory_size(kind) {
+        return 3;
+    }
+    let e = eeprom_in(cart);
+    let phase = e.phase;
+    *bit = read_bit(uses_eeprom(kind), e, memory) as u32;
+    let d = draw(phase, e.place);
+    match d {
+        Drawn::Nothing => 0,
+        Drawn::Place(place) => {
+            put_place(cart, place);
+            0
+        }
+        Drawn::Ended => {
+            put_ended(cart);
+            0
+        }
+    }
+}
+
+fn read_any(cart: &mut RecordBytes, memory: &[u8], bit: &mut u32) -> u32
+    ensures { λ x. ⌜
+        (x, now (cart .exit), now (memory .entry), now (bit .exit))
+        ≡ givesBit (now (cart .entry)) (now (memory .entry)) (now (bit .entry)) ⌝ }
+{
+    if !is_record(cart) {
+        return 2;
+    }
+    read_valid(cart, &memory[..], bit)
+}
+
+pub fn eeprom_read(cart: &mut RecordBytes, memory: &[u8], bit: &mut u32) -> u32
+    ensures { λ x. ⌜
+        (x, now (cart .exit), now (memory .entry), now (bit .exit))
+        ≡ givesBit (now (cart .entry)) (now (memory .entry)) (now (bit .entry)) ⌝ }
+{
+    if !known(cart) {
         return read_any(cart, memory, bit);
     }
     if !serial_usual(cart) {
         return read_any(cart, memory, bit);
     }
-    if cart[11] < 6 {
-        *bit = 1;
-        return 0;
-    }
-    if cart[11] != 6 {
-        return read_any(cart, memory, bit);
-    }
-    if 66 < cart[15] {
-        return read_any(cart, memory, bit);
-    }
-    draw_in_place(&mut cart[..], &memory[..], bit);
-    0
+    read_valid(cart, memory, bit)
 }

@@ -6,7 +6,7 @@ use Rattle.image.specs.Image.{imageLength, less, headerSum, headerChecksum}
 use Rattle.kind.specs.Kind.{begins, stands, detectSaveType}
 use Rattle.file_sizes.specs.SaveFit.{chipSize, saveFit}
 use Rattle.flash.specs.Flash.{stateAllowed}
-use Rattle.eeprom.specs.Eeprom.{widthAllowed, w, tells6, tells14, beginDma, dmaQuestion, shiftIn, opcodePhase, opcodeBit, turned, writeBit, bitIn}
+use Rattle.eeprom.specs.Eeprom.{widthAllowed, w, tells6, tells14, beginDma, dmaQuestion, shiftIn, opcodePhase, turned, writeBit, bitIn}
 use Rattle.cart.specs.ChipState.{phaseOf, chipBytes, chipOf, fieldQuestions}
 use Rattle.cart.specs.Record.{recordAllowed, freshCart, fresh, fromBytes}
 use Rattle.cart.specs.Calls.{load, questions, accepted, step, restore}
@@ -15,7 +15,7 @@ use Rattle.cart.specs.Cases.{Cases}
 use Rattle.cart.proofs.FlashCommands.{no-erase}
 
 pub cases-hold : Cases
-unfolding fold lowFirst erased stored filled imageLength less headerSum headerChecksum begins stands detectSaveType chipSize saveFit stateAllowed widthAllowed w tells6 tells14 beginDma dmaQuestion shiftIn opcodePhase opcodeBit turned writeBit phaseOf chipBytes chipOf fieldQuestions recordAllowed freshCart fresh fromBytes bitIn load questions accepted step restore calls
+unfolding fold lowFirst erased stored filled imageLength less headerSum headerChecksum begins stands detectSaveType chipSize saveFit stateAllowed widthAllowed w tells6 tells14 beginDma dmaQuestion shiftIn opcodePhase turned writeBit phaseOf chipBytes chipOf fieldQuestions recordAllowed freshCart fresh fromBytes bitIn load questions accepted step restore calls
 cases-hold =
     record {
       a = (refl, refl, refl);

@@ -24,7 +24,7 @@ use Rattle.cart.specs.Record.{chipAllowed, recordAllowed}
 use Rattle.cart.proofs.ChipState.{phase-le, phase-back, bit-le, bit-back}
 
 -- an allowed count is at most 64
-w-le : (width : ℕ) (large : Bool) → widthAllowed width ≡ true → w width large ≤ 14
+pub w-le : (width : ℕ) (large : Bool) → widthAllowed width ≡ true → w width large ≤ 14
 unfolding widthAllowed w
 w-le width large e =
     cases (eqb width 0) (λ z. rw z (small large))

@@ -2,38 +2,38 @@
 use mathlib.Core.Path.{_≡_}
 use mathlib.Core.Logic.{_≢_}
 use mathlib.Core.Bool.{true}
-use mathlib.Core.List.{List}
+use mathlib.Core.List.{List, []}
 use Prim.Native.Nat.{ℕ}
 use lib.Dec.{ltb}
 use lib.ListN.{replicate}
 use lib.Pow.{areBytes}
 use Rattle.file_sizes.specs.SaveFit.{taken, saveFitOf}
-use Rattle.out_params.specs.Places.{keptLength}
-use Rattle.cart.specs.Record.{State, Outcome, fromBytes}
+use Rattle.out_params.specs.Places.{placed, keptLength}
+use Rattle.cart.specs.Record.{State, Outcome}
 use Rattle.cart.specs.Calls.{Call, restore, importSave, step}
-use Rattle.c_record.specs.Abi.{left, called, calledAt, exportAt, flagAt, stateAt}
+use Rattle.c_record.specs.RecordBytes.{recordSize}
+use Rattle.c_record.specs.AtExit.{untouched, called}
+use Rattle.c_record.specs.Calls.{opens}
 
--- the machine's calls
-pub data MachineCall : (State → Outcome) → Type 0 where
-  ofNine : (c : Call) (d : List ℕ) → MachineCall (step c d)
-  ofRestore : (b : List ℕ) → MachineCall (restore b)
-  ofImport : (f : List ℕ) → MachineCall (importSave f)
+-- the machine's calls on a record, each with the destination that it is passed
+pub data MachineCall : (State → Outcome) → List ℕ → Type 0 where
+  ofNine : (c : Call) (d : List ℕ) → MachineCall (step c d) d
+  ofRestore : (b : List ℕ) → MachineCall (restore b) []
+  ofImport : (f : List ℕ) → MachineCall (importSave f) []
 
 pub record RefusedLeaves : Type 0 where
-  pub calls : {call : State → Outcome} → MachineCall call → (r m : List ℕ) → areBytes r ≡ true
-      → called call r m .0 ≢ 0
-      → called call r m ≡ (called call r m .0, r, m)
-  pub callsAt : {call : State → Outcome} → MachineCall call → (r m : List ℕ) (place : ℕ) → areBytes r ≡ true
-      → calledAt call r m place .0 ≢ 0
-      → calledAt call r m place ≡ (calledAt call r m place .0, r, m, place)
-  pub exports : (r m d : List ℕ) (place : ℕ) → areBytes r ≡ true
-      → exportAt r m d place .0 ≢ 0
-      → exportAt r m d place ≡ (exportAt r m d place .0, r, m, d, place)
-  pub flags : (r m : List ℕ) (place : ℕ) → areBytes r ≡ true → flagAt r m place .0 ≢ 0 → flagAt r m place ≡ (flagAt r m place .0, r, m, place)
-  pub states : (r m place : List ℕ) → areBytes r ≡ true → stateAt r m place .0 ≢ 0 → stateAt r m place ≡ (stateAt r m place .0, r, m, place)
+  -- record, memory and destination are as they were, and nothing is answered
+  pub calls : {call : State → Outcome} {d : List ℕ} → MachineCall call d → (r m : List ℕ) → areBytes r ≡ true
+      → called call d r m .answer ≢ 0
+      → called call d r m ≡ untouched (called call d r m .answer) d r m
+  -- so a place for a number, or for the state's bytes, keeps its value
+  pub number : (n value place : ℕ) → n ≢ 0 → placed n value place ≡ place
+  pub bytes : (n : ℕ) (value place : List ℕ) → n ≢ 0 → placed n value place ≡ place
   -- "opening, given none, returns one of kind None with all else 0"
-  pub opens : (image m : List ℕ) → left (fromBytes image m) .0 ≢ 0 → left (fromBytes image m) ≡ (left (fromBytes image m) .0, replicate 24 0, m)
+  pub opening : (image m : List ℕ) → opens image m .0 ≢ 0
+      → opens image m ≡ (opens image m .0, replicate recordSize 0, m)
 
 -- `save_fit` keeps more than 0 bytes of just those files that it takes
 pub record NoneIsZero : Type 0 where
-  pub told : (image : List ℕ) (file : ℕ) → ltb 0 (keptLength (saveFitOf image file)) ≡ taken (saveFitOf image file)
+  pub told : (image : List ℕ) (file : ℕ)
+      → ltb 0 (keptLength (saveFitOf image file)) ≡ taken (saveFitOf image file)

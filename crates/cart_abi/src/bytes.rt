@@ -1,31 +1,32 @@
-// `save_read` and `save_write`: the byte calls.
-use c_byte_calls::save_read;
-use c_byte_calls::save_write;
+// The byte calls.
+use c_record::RecordBytes;
 ghost use mathlib.Core.Path.{_≡_};
-ghost use mathlib.Core.List.{[]};
-ghost use Rattle.cart.specs.Calls.{saveRead, saveWrite, step};
-ghost use Rattle.c_record.specs.Abi.{called, calledAt};
+ghost use Rattle.c_record.specs.Calls.{reads, writes};
 
 #[no_mangle]
 pub extern "C" fn gbasave_save_read(
-    cart: &[u8; 24],
+    cart: &RecordBytes,
     memory: &[u8],
     address: u32,
     value: &mut u32,
 ) -> u32
-    ensures { λ x. ⌜ (x, now (cart .entry), now (memory .entry), now (value .exit)) ≡ calledAt (step (saveRead address) []) (now (cart .entry)) (now (memory .entry)) (now (value .entry)) ⌝ }
+    ensures { λ x. ⌜
+        (x, now (cart .entry), now (memory .entry), now (value .exit))
+        ≡ reads address (now (cart .entry)) (now (memory .entry)) (now (value .entry)) ⌝ }
 {
-    save_read(cart, memory, address, value)
+    c_byte_calls::save_read(cart, memory, address, value)
 }
 
 #[no_mangle]
 pub extern "C" fn gbasave_save_write(
-    cart: &mut [u8; 24],
+    cart: &mut RecordBytes,
     memory: &mut [u8],
     address: u32,
     value: u8,
 ) -> u32
-    ensures { λ x. ⌜ (x, now (cart .exit), now (memory .exit)) ≡ called (step (saveWrite address value) []) (now (cart .entry)) (now (memory .entry)) ⌝ }
+    ensures { λ x. ⌜
+        (x, now (cart .exit), now (memory .exit))
+        ≡ writes address value (now (cart .entry)) (now (memory .entry)) ⌝ }
 {
-    save_write(cart, memory, address, value)
+    c_byte_calls::save_write(cart, memory, address, value)
 }

@@ -1,11 +1,4 @@
 // What is asked of an image alone.
-use c_image_calls::detect_save_type;
-use c_image_calls::header_checksum;
-use c_image_calls::read;
-use c_image_calls::read16;
-use c_image_calls::read32;
-use c_image_calls::rom_crc;
-use c_image_calls::title;
 ghost use mathlib.Core.Path.{_≡_};
 ghost use Rattle.out_params.specs.Places.{answeredAt, kindAnswer, titleAt};
 ghost use Rattle.image.specs.Image.{read as read·spec, headerChecksum};
@@ -14,50 +7,58 @@ ghost use Rattle.crc.specs.Crc.{romCrc};
 
 #[no_mangle]
 pub extern "C" fn gbasave_read(image: &[u8], address: u32, value: &mut u32) -> u32
-    ensures { λ x. ⌜ (x, now (value .exit)) ≡ answeredAt (read·spec 1 (now (image .entry)) address) (now (value .entry)) ⌝ }
+    ensures { λ x. ⌜
+        (x, now (value .exit))
+        ≡ answeredAt (read·spec 1 (now (image .entry)) address) (now (value .entry)) ⌝ }
 {
-    read(image, address, value)
+    c_image_calls::read(image, address, value)
 }
 
 #[no_mangle]
 pub extern "C" fn gbasave_read16(image: &[u8], address: u32, value: &mut u32) -> u32
-    ensures { λ x. ⌜ (x, now (value .exit)) ≡ answeredAt (read·spec 2 (now (image .entry)) address) (now (value .entry)) ⌝ }
+    ensures { λ x. ⌜
+        (x, now (value .exit))
+        ≡ answeredAt (read·spec 2 (now (image .entry)) address) (now (value .entry)) ⌝ }
 {
-    read16(image, address, value)
+    c_image_calls::read16(image, address, value)
 }
 
 #[no_mangle]
 pub extern "C" fn gbasave_read32(image: &[u8], address: u32, value: &mut u32) -> u32
-    ensures { λ x. ⌜ (x, now (value .exit)) ≡ answeredAt (read·spec 4 (now (image .entry)) address) (now (value .entry)) ⌝ }
+    ensures { λ x. ⌜
+        (x, now (value .exit))
+        ≡ answeredAt (read·spec 4 (now (image .entry)) address) (now (value .entry)) ⌝ }
 {
-    read32(image, address, value)
+    c_image_calls::read32(image, address, value)
 }
 
 #[no_mangle]
 pub extern "C" fn gbasave_header_checksum(image: &[u8], value: &mut u32) -> u32
     ensures { λ x. ⌜ (x, now (value .exit)) ≡ answeredAt (headerChecksum (now (image .entry))) (now (value .entry)) ⌝ }
 {
-    header_checksum(image, value)
+    c_image_calls::header_checksum(image, value)
 }
 
 #[no_mangle]
 pub extern "C" fn gbasave_title(image: &[u8], destination: &mut [u8], length: &mut u32) -> u32
-    ensures { λ x. ⌜ (x, now (destination .exit), now (length .exit)) ≡ titleAt (headerTitle (now (image .entry)) (now (destination .entry))) (now (length .entry)) ⌝ }
+    ensures { λ x. ⌜
+        (x, now (destination .exit), now (length .exit))
+        ≡ titleAt (headerTitle (now (image .entry)) (now (destination .entry))) (now (length .entry)) ⌝ }
 {
-    title(image, destination, length)
+    c_image_calls::title(image, destination, length)
 }
 
 #[no_mangle]
 pub extern "C" fn gbasave_rom_crc(image: &[u8], value: &mut u32) -> u32
     ensures { λ x. ⌜ (x, now (value .exit)) ≡ answeredAt (romCrc (now (image .entry))) (now (value .entry)) ⌝ }
 {
-    rom_crc(image, value)
+    c_image_calls::rom_crc(image, value)
 }
 
-// Lent the image, it meets question 1.
+// It asks question 1.
 #[no_mangle]
 pub extern "C" fn gbasave_detect_save_type(image: &[u8], kind: &mut u32) -> u32
     ensures { λ x. ⌜ (x, now (kind .exit)) ≡ answeredAt (kindAnswer (now (image .entry))) (now (kind .entry)) ⌝ }
 {
-    detect_save_type(image, kind)
+    c_image_calls::detect_save_type(image, kind)
 }

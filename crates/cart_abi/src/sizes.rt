@@ -1,8 +1,5 @@
 // The sizes of files and memories.
 ghost use Rattle.out_params.specs.Places.{answeredAt, fitAnswer, memorySizeAnswer, sizeAnswer};
-use c_image_calls::memory_size;
-use c_image_calls::save_fit;
-use c_image_calls::save_size;
 ghost use mathlib.Core.Path.{_≡_};
 
 // 0 is kept of a file that cannot be this image's.
@@ -10,19 +7,19 @@ ghost use mathlib.Core.Path.{_≡_};
 pub extern "C" fn gbasave_save_fit(image: &[u8], length: usize, kept: &mut u32) -> u32
     ensures { λ x. ⌜ (x, now (kept .exit)) ≡ answeredAt (fitAnswer (now (image .entry)) length) (now (kept .entry)) ⌝ }
 {
-    save_fit(image, length, kept)
+    c_image_calls::save_fit(image, length, kept)
 }
 
 #[no_mangle]
 pub extern "C" fn gbasave_save_size(image: &[u8], size: &mut u32) -> u32
     ensures { λ x. ⌜ (x, now (size .exit)) ≡ answeredAt (sizeAnswer (now (image .entry))) (now (size .entry)) ⌝ }
 {
-    save_size(image, size)
+    c_image_calls::save_size(image, size)
 }
 
 #[no_mangle]
 pub extern "C" fn gbasave_memory_size(kind: u32, size: &mut u32) -> u32
     ensures { λ x. ⌜ (x, now (size .exit)) ≡ answeredAt (memorySizeAnswer kind) (now (size .entry)) ⌝ }
 {
-    memory_size(kind, size)
+    c_image_calls::memory_size(kind, size)
 }

@@ -17,6 +17,8 @@ use Rattle.flash.specs.Flash.{stateAllowed}
 use Rattle.eeprom.specs.declared.EepromPhase.{EepromPhase}
 use Rattle.eeprom.specs.declared.EepromPhase.the-variants.{Opcode, ReadAddress, WriteAddress, WriteData, ReadStop, WriteStop, Reading}
 use Rattle.eeprom.specs.Eeprom.{widthAllowed, w, countLimit}
+use Rattle.eeprom.proofs.Sound.{limit-64}
+use Rattle.cart.proofs.Fields.{w-le}
 use Rattle.cart.specs.ChipState.{phaseOf, fieldQuestions}
 use Rattle.c_record.specs.RecordBytes.{isRecord}
 use Rattle.quick_tests.specs.QuickTests.{isKnown, FlashUsual, FieldsUsual, SerialRests, CountAllowed}
@@ -49,26 +51,23 @@ limit-positive ReadStop n h = omega arith
 limit-positive WriteStop n h = omega arith
 limit-positive Reading n h = omega arith
 
-pub count-zero : (phase count width : ℕ) (large : Bool) → phase ≤ 6 → count ≡ 0 → CountAllowed phase count width large
-count-zero phase count width large p z =
-    (p, omega (arith, z), rw z (lt-ltb 0 (countLimit (phaseOf phase) (w width large)) (limit-positive (phaseOf phase) (w width large) (w-positive width large))))
+pub count-zero : (phase count width : ℕ) (large : Bool) → count ≡ 0 → phase ≤ 6 → CountAllowed phase count width large
+count-zero phase count width large z p = (p, rw z (limit-positive (phaseOf phase) (w width large) (w-positive width large)))
 
 pub count-data : (phase count width : ℕ) (large : Bool) → phase ≡ 3 → count < 64 → CountAllowed phase count width large
 unfolding phaseOf
-count-data phase count width large e l = (omega (arith, e), omega arith, rw e (lt-ltb count 64 l))
+count-data phase count width large e l = (omega (arith, e), rw e l)
 
 pub count-opcode : (phase count width : ℕ) (large : Bool) → phase ≡ 0 → count < 2 → CountAllowed phase count width large
 unfolding phaseOf
-count-opcode phase count width large e l = (omega (arith, e), omega arith, rw e (lt-ltb count 2 l))
+count-opcode phase count width large e l = (omega (arith, e), rw e l)
 
-pub count-address : (phase count width : ℕ) (large : Bool) → phase ≢ 3 → phase ≢ 0 → phase ≤ 3 → count ≤ 64 → count < w width large
-    → CountAllowed phase count width large
+pub count-address : (phase count width : ℕ) (large : Bool) → phase ≢ 3 → phase ≢ 0 → phase ≤ 3 → count < w width large → CountAllowed phase count width large
 unfolding phaseOf
-count-address phase count width large h z p c l = (
+count-address phase count width large h z p l = (
   omega arith,
-  c,
-  cases (eqb phase 1) (λ e. rw (ne-eqb phase 0 z, e) (lt-ltb count (w width large) l))
-      (λ e. let k : phase ≡ 2 = omega (arith, eqb-false phase 1 e, h, z) in rw k (lt-ltb count (w width large) l)),
+  cases (eqb phase 1) (λ e. rw (ne-eqb phase 0 z, e) l)
+      (λ e. let k : phase ≡ 2 = omega (arith, eqb-false phase 1 e, h, z) in rw k l),
 )
 
 -- the flash chip at rest
@@ -80,8 +79,9 @@ flash-zero r s b i = record { state = rw s refl; bank = b; id = i }
 chip-usual : (r : List ℕ) → FieldsUsual r → CountAllowed (getD r 11 0) (getD r 12 0) (getD r 9 0) (eqb (getD r 10 0) 1) → asked (fieldQuestions (drop 6 r)) ≡ 0
 unfolding fieldQuestions
 chip-usual r f k =
+    let l = limit-64 (phaseOf (getD r 11 0)) (w (getD r 9 0) (eqb (getD r 10 0) 1)) (getD r 12 0) (w-le (getD r 9 0) (eqb (getD r 10 0) 1) (f .width)) (k .1) in
     rw (getD-drop 6 r 0 0, getD-drop 6 r 1 0, getD-drop 6 r 2 0, getD-drop 6 r 3 0, getD-drop 6 r 4 0, getD-drop 6 r 5 0, getD-drop 6 r 6 0, getD-drop 6 r 7 0, getD-drop 6 r 8 0, getD-drop 6 r 9 0)
-    (rw (le-leb (getD r 11 0) 6 (k .0), f .flash .state, le-leb (getD r 7 0) 1 (f .flash .bank), le-leb (getD r 8 0) 1 (f .flash .id), le-leb (getD r 10 0) 1 (f .large), f .width, le-leb (getD r 12 0) 64 (k .1), le-leb (getD r 13 0 + 256 * getD r 14 0) 1023 (f .block), le-leb (getD r 15 0) 67 (f .place), k .2) refl)
+    (rw (le-leb (getD r 11 0) 6 (k .0), f .flash .state, le-leb (getD r 7 0) 1 (f .flash .bank), le-leb (getD r 8 0) 1 (f .flash .id), le-leb (getD r 10 0) 1 (f .large), f .width, le-leb (getD r 12 0) 64 (omega (arith, l)), le-leb (getD r 13 0 + 256 * getD r 14 0) 1023 (f .block), le-leb (getD r 15 0) 67 (f .place), lt-ltb (getD r 12 0) _ (k .1)) refl)
 
 pub usual-record : (r : List ℕ) → FieldsUsual r → CountAllowed (getD r 11 0) (getD r 12 0) (getD r 9 0) (eqb (getD r 10 0) 1) → isKnown r ≡ true → isRecord r ≡ true
 unfolding isKnown isRecord
@@ -104,4 +104,4 @@ rests-record r n f h s =
       block = omega (arith, s .block);
       place = omega (arith, s .place);
     })
-    (count-zero (getD r 11 0) (getD r 12 0) (getD r 9 0) (eqb (getD r 10 0) 1) (omega (arith, s .phase)) (s .count))
+    (count-zero (getD r 11 0) (getD r 12 0) (getD r 9 0) (eqb (getD r 10 0) 1) (s .count) (omega (arith, s .phase)))

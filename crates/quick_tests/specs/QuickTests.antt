@@ -2,8 +2,8 @@
 use mathlib.Core.Path.{_≡_}
 use mathlib.Core.Bool.{Bool, true, _&&_}
 use mathlib.Core.List.{List}
-use Prim.Native.Nat.{ℕ, _+_, _*_, _≤_}
-use lib.Dec.{ltb, leb}
+use Prim.Native.Nat.{ℕ, _+_, _*_, _≤_, _<_}
+use lib.Dec.{leb}
 use lib.ListN.{length, getD, take}
 use Rattle.lists.specs.Lists.{lowValue}
 use Rattle.image.specs.Image.{imageLength}
@@ -43,4 +43,4 @@ pub record FieldsUsual (r : List ℕ) : Type 0 where
 -- the count is below the limit of its phase
 abbrev pub CountAllowed : ℕ → ℕ → ℕ → Bool → Type 0
 CountAllowed phase count width large =
-    (phase ≤ 6) × (count ≤ 64) × (ltb count (countLimit (phaseOf phase) (w width large)) ≡ true)
+    (phase ≤ 6) × (count < countLimit (phaseOf phase) (w width large))

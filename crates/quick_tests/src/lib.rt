@@ -113,15 +113,15 @@ fn fields_usual(cart: &RecordBytes) -> bool
     fields_usual_in(&cart[..])
 }
 
-// The count of each phase. Data bits come first: most bits are theirs.
+// The count is below the limit of its phase.
 fn count_usual(phase: u8, count: u8, width: u8, large: bool) -> bool
     ensures { λ b. ⌜ (b ≡ true → CountAllowed phase count width large) ⌝ }
 {
-    if phase == 3 {
-        return count < 64;
-    }
     if count == 0 {
         return phase <= 6;
+    }
+    if phase == 3 {
+        return count < 64;
     }
     if phase == 0 {
         return count < 2;
@@ -129,18 +129,15 @@ fn count_usual(phase: u8, count: u8, width: u8, large: bool) -> bool
     if 3 < phase {
         return false;
     }
-    if 64 < count {
-        return false;
-    }
     count < w(width, large)
 }
 
-// For the serial calls: the flash chip is at rest.
+// For the serial calls: the flash chip is at rest. The count comes first, so that the test needs no register that has to be saved.
 pub fn serial_usual(cart: &RecordBytes) -> bool
     ensures { λ b. ⌜ (b ≡ true → isKnown (now (cart .entry)) ≡ true → isRecord (now (cart .entry)) ≡ true) ⌝ }
 {
-    if !fields_usual(cart) {
+    if !count_usual(cart[PHASE], cart[COUNT], cart[WIDTH], cart[LARGE] == 1) {
         return false;
     }
-    count_usual(cart[PHASE], cart[COUNT], cart[WIDTH], cart[LARGE] == 1)
+    fields_usual(cart)
 }

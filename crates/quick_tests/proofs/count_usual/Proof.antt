@@ -10,12 +10,12 @@ use Rattle.quick_tests.proofs.count_usual.Tie as tie
 returns : tie.Need-returns
 returns c =
     let a = c .before .args in
-    λ e. count-data (a .phase) (a .count) (a .width) (a .large) (c .if1 .taken) (ltb-true (a .count) 64 e)
+    λ e. count-zero (a .phase) (a .count) (a .width) (a .large) (c .if1 .taken) (leb-true (a .phase) 6 e)
 
 returns-2 : tie.Need-returns-2
 returns-2 c =
     let a = c .before .before .args in
-    λ e. count-zero (a .phase) (a .count) (a .width) (a .large) (leb-true (a .phase) 6 e) (c .if2 .taken)
+    λ e. count-data (a .phase) (a .count) (a .width) (a .large) (c .if2 .taken) (ltb-true (a .count) 64 e)
 
 returns-3 : tie.Need-returns-3
 returns-3 c =
@@ -26,23 +26,11 @@ returns-4 : tie.Need-returns-4
 returns-4 c = λ e. never e
 
 returns-5 : tie.Need-returns-5
-returns-5 c = λ e. never e
-
-returns-6 : tie.Need-returns-6
-returns-6 c =
-    let a = c .before .before .before .before .before .before .args in
+returns-5 c =
+    let a = c .before .before .before .before .before .args in
     λ e.
-    count-address (a .phase) (a .count) (a .width) (a .large) (c .before .before .before .before .before .if1 .left) (c .before .before .before .if3 .left) (c .before .before .if4 .left) (c .before .if5 .left)
+    count-address (a .phase) (a .count) (a .width) (a .large) (c .before .before .before .if2 .left) (c .before .before .if3 .left) (c .before .if4 .left)
     (subst (λ (n : ℕ). a .count < n) (c .w .ensures) (ltb-true _ _ e))
 
 pub count-usual-spec : {M : Type 1} → statement M
-count-usual-spec =
-    tie.close
-    (tie.spec
-    returns
-    returns-2
-    returns-3
-    returns-4
-    returns-5
-    (λ c κs. search needs)
-    returns-6)
+count-usual-spec = tie.close (tie.spec returns returns-2 returns-3 returns-4 (λ c κs. search needs) returns-5)

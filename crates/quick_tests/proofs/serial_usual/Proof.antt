@@ -1,5 +1,6 @@
-use Rattle.lists.proofs.Bools.{granted}
+-- `quick_tests::serial_usual` meets its contract. Assumes nothing.
 use mathlib.Core.Path.{refl}
+use Rattle.lists.proofs.Bools.{granted}
 use Rattle.quick_tests.proofs.QuickTests.{never, usual-record}
 use borrow.Author.Needs.{needs}
 use Rattle.quick_tests.proofs.serial_usual.Statement.{statement}
@@ -11,17 +12,17 @@ returns c = λ e h. never e
 returns-2 : tie.Need-returns-2
 returns-2 c = λ e h.
     let r = c .before .before .before .before .before .before .before .args .cart .now in
-    usual-record r (c .before .before .before .before .before .before .fields-usual .ensures (granted _ refl (c .before .before .before .before .before .if1 .left))) (c .count-usual .ensures e) h
+    usual-record r (c .fields-usual .ensures e) (c .before .before .count-usual .ensures (granted _ refl (c .before .if1 .left))) h
 
 pub serial-usual-spec : {M : Type 1} → statement M
 serial-usual-spec =
     tie.close
     (tie.spec
+    (λ c. search needs)
+    (λ c. search needs)
+    (λ c. search needs)
+    (λ c. search needs)
     (λ c κs. search needs)
     returns
-    (λ c. search needs)
-    (λ c. search needs)
-    (λ c. search needs)
-    (λ c. search needs)
     (λ c κs. search needs)
     returns-2)

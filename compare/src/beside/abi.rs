@@ -1,0 +1,71 @@
+//! The part's calls as the archives have them; `compare/link` links those. Each answers 0 or a refusal number; a slice is a
+//! pointer and a length.
+
+pub type Record = [u8; 24];
+
+extern "C" {
+    pub fn gbasave_from_bytes(
+        record: &mut Record,
+        image: *const u8,
+        image_len: usize,
+        memory: *mut u8,
+        memory_len: usize,
+    ) -> u32;
+    pub fn gbasave_save_read(record: &Record, memory: *const u8, memory_len: usize, address: u32, value: &mut u32) -> u32;
+    pub fn gbasave_save_write(record: &mut Record, memory: *mut u8, memory_len: usize, address: u32, value: u8) -> u32;
+    pub fn gbasave_eeprom_begin_dma(record: &mut Record, words: u32) -> u32;
+    pub fn gbasave_eeprom_write(record: &mut Record, memory: *mut u8, memory_len: usize, value: u16) -> u32;
+    pub fn gbasave_eeprom_read(record: &mut Record, memory: *const u8, memory_len: usize, bit: &mut u32) -> u32;
+    pub fn gbasave_load_save(record: &mut Record, memory: *mut u8, memory_len: usize, file: *const u8, file_len: usize) -> u32;
+    pub fn gbasave_save_data(
+        record: &Record,
+        memory: *const u8,
+        memory_len: usize,
+        destination: *mut u8,
+        destination_len: usize,
+        length: &mut u32,
+    ) -> u32;
+    pub fn gbasave_import_save(
+        record: &mut Record,
+        memory: *mut u8,
+        memory_len: usize,
+        file: *const u8,
+        file_len: usize,
+        kept: &mut u32,
+    ) -> u32;
+    pub fn gbasave_chip_state(record: &Record, bytes: &mut [u8; 18]) -> u32;
+    pub fn gbasave_restore_chip_state(record: &mut Record, bytes: *const u8, length: usize) -> u32;
+    pub fn gbasave_take_save_dirty(record: &mut Record, flag: &mut u32) -> u32;
+    pub fn gbasave_uses_eeprom(record: &Record, answer: &mut u32) -> u32;
+    pub fn gbasave_eeprom_window_start(record: &Record, start: &mut u32) -> u32;
+    pub fn gbasave_read(image: *const u8, image_len: usize, address: u32, value: &mut u32) -> u32;
+    pub fn gbasave_read16(image: *const u8, image_len: usize, address: u32, value: &mut u32) -> u32;
+    pub fn gbasave_read32(image: *const u8, image_len: usize, address: u32, value: &mut u32) -> u32;
+    pub fn gbasave_header_checksum(image: *const u8, image_len: usize, value: &mut u32) -> u32;
+    pub fn gbasave_title(
+        image: *const u8,
+        image_len: usize,
+        destination: *mut u8,
+        destination_len: usize,
+        length: &mut u32,
+    ) -> u32;
+    pub fn gbasave_rom_crc(image: *const u8, image_len: usize, value: &mut u32) -> u32;
+    pub fn gbasave_detect_save_type(image: *const u8, image_len: usize, kind: &mut u32) -> u32;
+    pub fn gbasave_save_fit(image: *const u8, image_len: usize, length: usize, kept: &mut u32) -> u32;
+    pub fn gbasave_save_size(image: *const u8, image_len: usize, size: &mut u32) -> u32;
+    pub fn gbasave_memory_size(kind: u32, size: &mut u32) -> u32;
+
+    /// Runs a list of calls, with its cuts, through the part.
+    pub fn gbasave_replay(
+        image: *const u8,
+        image_len: usize,
+        list: *const u8,
+        list_len: usize,
+        memory: *mut u8,
+        memory_len: usize,
+        scratch: *mut u8,
+        scratch_len: usize,
+        out: *mut u8,
+        out_len: usize,
+    ) -> u32;
+}

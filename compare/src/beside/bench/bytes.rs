@@ -1,0 +1,116 @@
+//! Time per image, file and erase.
+
+use super::placed::at_lines;
+use super::{answered, is_wanted, long_row, row, used};
+use crate::part::Part;
+use crate::part_image;
+use compare::files::file;
+use compare::images::{image, of_kind, LARGEST};
+use compare::kind::{self, MEMORY};
+use compare::original;
+use std::hint::black_box;
+
+pub fn rows() {
+    images();
+    files();
+    erases();
+}
+
+/// 32 MiB with the marker near the end, where most stand. The original's opening takes the CRC too. An image takes long to make, and is
+/// made only if it is wanted.
+fn images() {
+    for (name, marker) in [("SRAM_V", "SRAM_V"), ("EEPROM_V", "EEPROM_V"), ("no marker", "")] {
+        let rows = ["opening", "opening and CRC", "kind"].map(|what| format!("{what}, 32 MiB, {name}"));
+        if !rows.iter().any(|row| is_wanted(row)) {
+            continue;
+        }
+        let image = image(LARGEST, 7, LARGEST - 64, marker.as_bytes());
+        let memory = MEMORY[usize::from(original::detect_save_type(&image))];
+        let [opening, opening_and_crc, kind] = &rows;
+        long_row(opening, || used(original::open(&image)), || used(Part::open(&image, memory)));
+        long_row(
+            opening_and_crc,
+            || used(original::open(&image)),
+            || used((Part::open(&image, memory), part_image::rom_crc(&image))),
+        );
+        long_row(kind, || used(original::detect_save_type(&image)), || used(part_image::detect_save_type(&image)));
+    }
+    if is_wanted("CRC, 32 MiB") {
+        let image = image(LARGEST, 7, 0, b"");
+        long_row("CRC, 32 MiB", || used(original::crc32(&image)), || used(part_image::rom_crc(&image)));
+    }
+}
+
+/// Cartridges of one side that take turns: in which pages a memory lies moves the time of a copy by some hundredths.
+struct Turns<T> {
+    all: Vec<T>,
+    turn: usize,
+}
+
+impl<T> Turns<T> {
+    const CARTRIDGES: usize = 5;
+    /// Calls in one turn.
+    const CALLS: u32 = 16;
+
+    fn new() -> Self {
+        Self { all: Vec::new(), turn: 0 }
+    }
+
+    fn each(&mut self, mut call: impl FnMut(&mut T)) {
+        self.turn = (self.turn + 1) % Self::CARTRIDGES;
+        let cartridge = &mut self.all[self.turn];
+        (0..Self::CALLS).for_each(|_| call(black_box(cartridge)));
+    }
+}
+
+/// Files of every length that an export has. Each is loaded once in front of its rows, so that both sides export it whole.
+fn files() {
+    for (name, kind, length) in [
+        ("Sram", kind::SRAM, 32_768),
+        ("Flash64", kind::FLASH64, 65_536),
+        ("Flash128", kind::FLASH128, 131_072),
+        ("Eeprom512", kind::EEPROM512, 512),
+        ("Eeprom512", kind::EEPROM512, 8_192),
+    ] {
+        let image = of_kind(kind);
+        let file = file(length, 3);
+        let (mut carts, mut parts) = (Turns::new(), Turns::new());
+        for _ in 0..Turns::<Part>::CARTRIDGES {
+            let mut cart = at_lines(|| original::open(&image)).expect("an image of an allowed length");
+            let (_, mut part) = at_lines(|| Part::open(&image, MEMORY[usize::from(kind)]));
+            original::load_save(&mut cart, &file);
+            part.load_save(&file);
+            assert_eq!(original::save_data(&cart).as_ref(), Some(&file));
+            assert_eq!(part.save_file(file.len()), file);
+            carts.all.push(cart);
+            parts.all.push(part);
+        }
+        row(
+            &format!("load, {name}, {length} bytes"),
+            Turns::<Part>::CALLS,
+            || carts.each(|cart| original::load_save(cart, black_box(&file))),
+            || parts.each(|part| used(answered(part.load_save(black_box(&file))))),
+        );
+        row(
+            &format!("export, {name}, {length} bytes"),
+            Turns::<Part>::CALLS,
+            || carts.each(|cart| used(original::save_data(cart))),
+            || parts.each(|part| used(part.save_file(black_box(file.len())))),
+        );
+    }
+}
+
+fn erases() {
+    for (name, last) in [("sector erase, Flash128", 0x30), ("chip erase, Flash128", 0x10)] {
+        let image = of_kind(kind::FLASH128);
+        let mut cart = original::open(&image).expect("an image of an allowed length");
+        let (_, mut part) = Part::open(&image, MEMORY[usize::from(kind::FLASH128)]);
+        let command = [0xAA, 0x55, 0x80, 0xAA, 0x55, last];
+        row(
+            name,
+            1,
+            || command.iter().for_each(|value| original::save_write(&mut cart, 0x5555, *value)),
+            || command.iter().for_each(|value| used(answered(part.save_write(0x5555, *value)))),
+        );
+    }
+}

@@ -1,0 +1,111 @@
+-- The file calls on a valid record's bytes. Assumes nothing.
+use mathlib.Core.Path.{_≡_, refl, sym, ap, _∙_}
+use mathlib.Core.Logic.{_≢_}
+use mathlib.Core.Bool.{Bool, true, false, cond}
+use mathlib.Core.List.{List, []}
+use mathlib.Core.Option.{Option, none, some}
+use Prim.Native.Nat.{ℕ, _≤_, _<_}
+use native.Mathlib.Omega.{arith}
+use lib.Dec.{eqb, leb}
+use lib.ListN.{length, getD, take}
+use lib.Seq.{getD-drop}
+use borrow.Author.Tests.{eq-eqb, ne-eqb, le-leb, lt-leb}
+use Rattle.lists.specs.Lists.{into}
+use Rattle.lists.specs.Questions.{asked}
+use Rattle.memory.specs.declared.Store.the-variants.{File}
+use Rattle.memory.specs.Memory.{stored}
+use Rattle.kind.specs.Kind.{memorySize}
+use Rattle.file_sizes.specs.SaveFit.{saveFit, taken, keptPart}
+use Rattle.cart.specs.declared.Reply.{Reply}
+use Rattle.cart.specs.ChipState.{chipOf}
+use Rattle.cart.specs.Record.{State}
+use Rattle.cart.specs.Calls.{loadSave, saveData, largeAfter, load, fileOf, exported, questions, accepted, importSave}
+use Rattle.cart.specs.Replies.{exportReplied}
+use Rattle.file_calls.specs.Files.{fileLength}
+use Rattle.file_calls.proofs.Exports.{holds-is, exported-is}
+use Rattle.c_record.specs.RecordBytes.{recordBytes, cartOf, Valid, stateOf}
+use Rattle.c_record.specs.Fields.{withLarge}
+use Rattle.c_record.specs.AtExit.{left, called, plain, exportAt}
+use Rattle.c_record.specs.Calls.{loads, exports, imports}
+use Rattle.c_record.proofs.FieldBytes.{put-large}
+use Rattle.c_record.proofs.Calls.{memory-no, memory-yes, refused, done}
+
+-- `large`, by its byte
+pub large-read : (r : List ℕ) → eqb (getD r 10 0) 1 ≡ cartOf r .chip .eeprom .large
+unfolding cartOf chipOf
+large-read r = ap (λ (n : ℕ). eqb n 1) (sym (getD-drop 6 r 4 0))
+
+-- an export leaves the record and the memory
+exported-at : (f : Option (List ℕ)) (d : List ℕ) (s : State) (place : ℕ)
+    → let x = exportReplied (exported f d s) in
+    (0, recordBytes (s .cart), s .memory, x .1, x .0 .value) ≡ exportAt place (left (exported f d s))
+exported-at none d s place = refl
+exported-at (some f) d s place = refl
+
+module _ (r m : List ℕ) (v : Valid r) where
+  -- an accepted load
+  pub load-valid : (f : List ℕ) (large : Bool) {r' m' : List ℕ}
+      → large ≡ largeAfter (cartOf r .kind) (cartOf r .chip .eeprom .large) (length f)
+      → r' ≡ withLarge r large
+      → m' ≡ stored File f m
+      → (0, r', m') ≡ plain (left (accepted (loadSave f) [] (stateOf r m)))
+  unfolding accepted load
+  load-valid f large {r'} {m'} e p q =
+      let b = p ∙ ap (λ (l : List ℕ). withLarge l large) (sym (v .back)) ∙ put-large (cartOf r) large in
+      (λ i. (0, b i, q i)) ∙ rw e
+
+  -- question 3 is answered no
+  module _ (n : length m ≢ memorySize (cartOf r .kind)) where
+    pub load-no : (f : List ℕ) → (3, r, m) ≡ loads f r m
+    unfolding questions
+    load-no f = ap plain (refused (loadSave f) [] r m v 3 (memory-no r m v [] n) (λ z. omega (arith, z)))
+
+    pub export-no : (d : List ℕ) (place : ℕ) → (3, r, m, d, place) ≡ exports d r m place
+    unfolding questions
+    export-no d place =
+        ap (exportAt place)
+        (refused saveData d r m v 3 (rw (v .allowed, ne-eqb (length m) (memorySize (cartOf r .kind)) n)) (λ z. omega (arith, z)))
+
+    pub import-no : (f : List ℕ) (place : ℕ) → (3, r, m, place) ≡ imports f r m place
+    unfolding called importSave
+    import-no f place = rw (v .yes, v .allowed, ne-eqb (length m) (memorySize (cartOf r .kind)) n) (λ i. (3, sym (v .back) i, m, place))
+
+  -- and yes
+  module _ (n : length m ≡ memorySize (cartOf r .kind)) where
+    pub load-yes : (f : List ℕ) → plain (left (accepted (loadSave f) [] (stateOf r m))) ≡ loads f r m
+    unfolding questions
+    load-yes f = ap plain (done (loadSave f) [] r m v (memory-yes r m v [] n))
+
+    -- the file that is exported has k bytes
+    module _ (d : List ℕ) (place k : ℕ) (e : k ≡ fileLength (cartOf r .kind) (cartOf r .chip .eeprom .large)) where
+      room : cond (leb k (length d)) 0 13 ≡ asked (questions saveData d (stateOf r m))
+      unfolding questions
+      room =
+          rw (v .allowed, eq-eqb (length m) (memorySize (cartOf r .kind)) n, holds-is (stateOf r m) d (cartOf r .kind) n, ← e)
+
+      pub no-room : length d < k → (13, r, m, d, place) ≡ exports d r m place
+      no-room l = ap (exportAt place) (refused saveData d r m v 13 (rw (lt-leb k (length d) l) at room) (λ z. omega (arith, z)))
+
+      pub export-yes : {d' : List ℕ} → k ≤ length d → d' ≡ into (take k m) d → (0, r, m, d', k) ≡ exports d r m place
+      unfolding accepted
+      export-yes l w =
+          let s = stateOf r m in
+          (λ i. (0, sym (v .back) i, m, w i, k))
+          ∙ ap (λ (k : ℕ). (0, recordBytes (cartOf r), m, into (take k m) d, k)) e
+          ∙ ap (λ (x : Reply × List ℕ). (0, recordBytes (cartOf r), m, x .1, x .0 .value)) (sym (exported-is s d (cartOf r .kind) n))
+          ∙ exported-at (fileOf (cartOf r .kind) s) d s place
+          ∙ ap (exportAt place) (done saveData d r m v (rw (le-leb k (length d) l) at room))
+
+    pub no-fit : (f : List ℕ) (place : ℕ) → taken (saveFit (cartOf r .kind) (length f)) ≡ false → (14, r, m, place) ≡ imports f r m place
+    unfolding called importSave
+    no-fit f place t = rw (v .yes, v .allowed, eq-eqb (length m) (memorySize (cartOf r .kind)) n, t) (λ i. (14, sym (v .back) i, m, place))
+
+    -- the part of the file that is kept is loaded
+    pub import-yes : (f part : List ℕ) (place : ℕ) {r' m' : List ℕ}
+        → taken (saveFit (cartOf r .kind) (length f)) ≡ true
+        → part ≡ keptPart (cartOf r .kind) f
+        → _≡_ {A = ℕ × List ℕ × List ℕ} (0, r', m') (plain (left (accepted (loadSave part) [] (stateOf r m))))
+        → (0, r', m', length part) ≡ imports f r m place
+    unfolding called importSave accepted
+    import-yes f part place t p e =
+        rw (v .yes, v .allowed, eq-eqb (length m) (memorySize (cartOf r .kind)) n, t, ← p) (λ i. (0, e i .1, e i .2, length part))

@@ -1,0 +1,49 @@
+-- `c_file_calls::load_valid` meets its contract. Assumes nothing.
+use mathlib.Core.Path.{sym, ap, ap₂, _∙_}
+use mathlib.Core.Bool.{Bool}
+use native.Mathlib.Omega.{arith}
+use lib.ListN.{length}
+use Rattle.kind.specs.declared.SaveType.{SaveType}
+use Rattle.kind.proofs.Sizes.{memory-small}
+use Rattle.cart.specs.ChipState.{bit}
+use Rattle.cart.specs.Calls.{largeAfter}
+use Rattle.c_record.specs.RecordBytes.{cartOf}
+use Rattle.c_record.proofs.FieldBytes.{large-byte}
+use Rattle.c_file_calls.proofs.FileCalls.{large-read, load-valid}
+use borrow.Author.Needs.{needs}
+use Rattle.c_file_calls.proofs.load_valid.Statement.{statement}
+use Rattle.c_file_calls.proofs.load_valid.Tie as tie
+
+put-large-requires : tie.Need-put-large-requires
+put-large-requires c κs =
+    let s = c .before .before .before .before .before .before .before in
+    let r = s .args .cart .now in
+    large-byte r (s .pre .0) ∙ ap bit (sym (large-read r))
+
+apply-requires : tie.Need-apply-requires
+apply-requires c κs =
+    let s = c .before .before .before .before .before .before .before .before .before in
+    omega (arith, s .pre .1, memory-small (cartOf (s .args .cart .now) .kind))
+
+returns : tie.Need-returns
+returns c =
+    let l = c .before .before .before .before .before .before in
+    let s = l .before .before .before .before .before .before in
+    let r = s .args .cart .now in
+    let f = s .args .file .now in
+    load-valid r (s .args .memory .now) (s .pre .0) f _
+    (l .large-after .ensures ∙ ap₂ (λ (k : SaveType) (b : Bool). largeAfter k b (length f)) (l .before .kind-in .ensures) (large-read r))
+    (c .before .before .before .before .put-large .ensures)
+    (c .before .before .apply .ensures)
+
+pub load-valid-spec : {M : Type 1} → statement M
+load-valid-spec =
+    tie.close
+    (tie.spec
+    (λ c. search needs)
+    (λ c κs. search needs)
+    (λ c κs. search needs)
+    put-large-requires
+    apply-requires
+    (λ c. search needs)
+    returns)
