@@ -1,4 +1,4 @@
--- Where the items of a list stand. Assumes nothing.
+-- Where the items of a list are. Assumes nothing.
 use mathlib.Core.Path.{_≡_, refl, ap, _∙_}
 use mathlib.Core.List.{List, [], _∷_}
 use Prim.Native.Nat.{ℕ, zero, suc, _+_, _-_, _≤_, _<_}
@@ -78,7 +78,7 @@ first-item (b ∷ l) h =
     ap (λ (ps : List Place). here ∷ ps)
     (passed (itemLength i - 1) l ∙ ap (λ (r : List ℕ). items 0 r) (behind b l (itemLength i) (takes-some i)))
 
--- at any place before the end stands an item, and behind it the others
+-- at any place before the end is an item, and after it the others
 pub next-item : (l : List ℕ) (i : ℕ) → i < length l
     → items 0 (drop i l) ≡ (record { item = itemIn (drop i l); bytes = drop i l } ∷ items 0 (drop (i + itemLength (itemIn (drop i l))) l))
 next-item l i h =

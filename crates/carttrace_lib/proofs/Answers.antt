@@ -61,7 +61,7 @@ pub record-line : (s : State) → let o = step chipState [] s in stateLine (stat
 unfolding step accepted chipBytes
 record-line s = state-line (questions chipState [] s) [] s s _ _
 
--- what a call left, and its reply's line behind it
+-- what a call left, and then its reply's line
 pub shows : {R : Type 0} (f : R → List ℕ) (g : R → Cartridge) {r q : R} {m n out' text : List ℕ} {x : Played} (out : List ℕ)
     → _≡_ {A = R × List ℕ} (r, m) (q, n) → _≡_ {A = Played × List ℕ} (x, out') (left (g r) (f r) out) → f q ≡ text
     → _≡_ {A = Played × List ℕ × List ℕ} (x, m, out') (playedWith (g q) (length text), n, into text out)

@@ -13,7 +13,7 @@ use Rattle.carttrace_lib.specs.declared.Told.{Told}
 use Rattle.carttrace_lib.specs.Session.{Heard, heard, took, tookAll, toldWith, told}
 use Rattle.carttrace_lib.proofs.Short.{took-short}
 
--- what was printed before, and what comes behind it
+-- what was printed before, and what comes after it
 abbrev pub behind : List ℕ → Heard → Heard
 behind front h = heard (front ++ h .text) (h .session) (h .memory)
 
@@ -37,7 +37,7 @@ pub out-length : {input m₀ out₀ m out : List ℕ} {s₀ s : Session} {len i 
 out-length {input} {m₀} {out₀} f =
     ap length (f .outIs) ∙ length-into (f .front) out₀ (omega (arith, f .lenIs, f .lenOk, f .placeOk, f .roomOk))
 
--- the output behind the character at i, lent from len on
+-- the output after the character at i, passed from len on
 pub put-behind : (front text out₀ out o' : List ℕ) (len : ℕ) → len ≡ length front → len ≤ length out₀ → out ≡ into front out₀
     → o' ≡ into text (take (length out - len) (drop len out)) → take len out ++ (o' ++ drop (length out - len) (drop len out)) ≡ into (front ++ text) out₀
 put-behind front text out₀ out o' len l k e q =

@@ -83,7 +83,7 @@ unfolding pushedAll
 push-more l [] c = refl
 push-more l (b ∷ line) c = push-more (pushed l b) line c
 
--- behind a bad line 1 nothing is printed
+-- after a bad line 1 nothing is printed
 over : (input : List ℕ) (l : Line) (cart : Cartridge) (m : List ℕ) → printedBy input (sessionWith Over l cart) m ≡ []
 unfolding printedBy tookAll took lineEnded finished
 over [] l cart m = cases (isEmpty l) (λ e. rw e) (λ e. rw e)
@@ -104,7 +104,7 @@ sound-play Bad s k = k
 front-memory : (s : State) (rest : List ℕ) → Sound s → take (memorySize (s .cart .kind)) (s .memory ++ rest) ≡ s .memory
 front-memory s rest k = rw (sym (k .memoryOk)) (take-append-seam (s .memory) rest)
 
--- line 1 was a kind: the lines behind it, the characters of the next one so far in `line`
+-- line 1 was a kind: the lines after it, the characters of the next one so far in `line`
 playing : (input line : List ℕ) (cart : Cartridge) (m : List ℕ) → let s = state cart (take (memorySize (cart .kind)) m) in Sound s
     → printedBy input (sessionWith Playing (pushedAll emptyLine line) cart) m ≡ playAll (linesFrom line input) s
 unfolding printedBy tookAll finished lineEnded continued linesFrom playAll pushedAll
@@ -129,7 +129,7 @@ playing (c ∷ input) line cart m k =
     ∙ ap (λ (w : List ℕ). playAll (linesFrom [] input) (state (p .next .cart) w)) f)))
     (λ e. rw (took-char c (sessionWith Playing l cart) m e, e) (ap (λ (q : Line). printedBy input (sessionWith Playing q cart) m) (push-more emptyLine line c) ∙ playing input (line ++ (c ∷ [])) cart m k))
 
--- line 1 at its end, and what is printed behind it
+-- at the end of line 1, and what is printed after it
 first-end : (f : FirstLine) (input : List ℕ) (s : Session) (m : List ℕ) → let h = begun f s m in
     h .text ++ printedBy input (h .session) (h .memory) ≡ playFrom f (linesFrom [] input)
 unfolding begun freshKind imageLength pushedAll

@@ -96,7 +96,7 @@ pub record Collected (text room₀ room : List ℕ) (used i : ℕ) : Type 0 wher
 pub collect-start : (text room : List ℕ) → length text ≤ 2 * length room → Collected text room room 0 0
 collect-start text room h = record { placeOk = omega arith; usedOk = omega arith; sameOk = refl; roomOk = h; wholeIs = refl }
 
--- the room with a part of it lent and given back as o
+-- the room with a part of it passed and left as o
 pub put-code : (room o code : List ℕ) (used k : ℕ) → used ≤ length room → k ≤ length o → take k o ≡ code
     → take (used + k) (take used room ++ (o ++ drop (length room - used) (drop used room))) ≡ take used room ++ code
 put-code room o code used k h l e =

@@ -1,4 +1,4 @@
--- Where the items of a list that was made of lines stand, and how much they answer. Assumes nothing.
+-- Where the items of a list made of lines are, and how much they answer. Assumes nothing.
 use mathlib.Core.Path.{_≡_, refl, sym, ap, _∙_}
 use mathlib.Core.Bool.{true, false}
 use mathlib.Core.List.{List, [], _∷_, _++_}
@@ -50,7 +50,7 @@ load-stays l r e =
     ∙ within-stays (5 + high32 l) l r (LoadSave (high32 l)) (LoadSave (high32 l)) e (λ _. refl))
     (λ t. never (sym (rw t at e)))
 
--- an item stays what it is, whatever stands behind it
+-- an item stays what it is, whatever comes after it
 item-stays : (l r : List ℕ) → isItem (itemIn l) ≡ true → itemIn (l ++ r) ≡ itemIn l
 unfolding itemIn
 item-stays [] r e = never (sym e)
@@ -76,7 +76,7 @@ item-stays (b ∷ t) r e =
     (λ t9. rw (f1, f2, f3, f4, f5, f6, f7, f8, t9) (within-stays 5 l r (SaveData (high32 l)) (SaveData (high32 (l ++ r))) (rw (f1, f2, f3, f4, f5, f6, f7, f8, t9) at e) (λ h. ap SaveData (high32-stays l r h))))
     (λ f9. rw (f1, f2, f3, f4, f5, f6, f7, f8, f9))))))))))
 
--- the place where bytes stand that are an item, all of them
+-- the place of bytes that are exactly one item
 abbrev placed : List ℕ → List ℕ → Place
 placed code rest = record { item = itemIn code; bytes = code ++ rest }
 

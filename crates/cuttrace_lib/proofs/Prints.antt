@@ -35,7 +35,7 @@ pub out-length : {text : List ℕ} {m : ℕ} {answers room₀ out₀ room out : 
 out-length {out₀ = out₀} f =
     ap length (f .shownOk .1) ∙ length-into (f .front) out₀ (omega (arith, f .shownOk .0, f .lenOk, f .atOk, f .placeOk, f .outOk))
 
--- the answer to the line at place i stands in the answers
+-- the answer to the line at place i is within the answers
 pub here-fits : {text : List ℕ} {m : ℕ} {answers room₀ out₀ room out : List ℕ} {len at i : ℕ} (n : ℕ) (item : Item) → Printed text m answers room₀ out₀ room out len at i
     → i < length text → n ≡ lineLength (take (length text - i) (drop i text)) → item ≡ lineItem (take (i + n - i) (drop i text))
     → at + (itemRoom item + linesRoom (linesFrom [] (drop (i + n + 1) text)) + endingRoom m) ≤ length answers

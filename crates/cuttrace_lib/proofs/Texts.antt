@@ -34,7 +34,7 @@ pub length-end : (text : List ℕ) (i : ℕ) → i ≡ length text → lineLengt
 unfolding lineLength
 length-end text i h w = sym (w ∙ rw (h, drop-length text) (omega arith))
 
--- the first line of a text, behind the characters that began it
+-- the first line of a text, after the characters that began it
 pub first-line : (line text : List ℕ) → 0 < length line + length text
     → linesFrom line text ≡ ((line ++ take (lineLength text) text) ∷ linesFrom [] (drop (suc (lineLength text)) text))
 unfolding linesFrom lineLength
@@ -47,7 +47,7 @@ first-line line (c ∷ text) h =
     (first-line (line ++ (c ∷ [])) text (simp length-append (omega arith))
     ∙ ap (λ (l : List ℕ). l ∷ linesFrom [] (drop (suc (lineLength text)) text)) (append-assoc line (c ∷ []) (take (lineLength text) text))))
 
--- at any place before the end a line begins, and behind it the others
+-- at any place before the end a line begins, and after it the others
 pub next-line : (text : List ℕ) (i n : ℕ) → i < length text → n ≡ lineLength (take (length text - i) (drop i text))
     → linesFrom [] (drop i text) ≡ (take (i + n - i) (drop i text) ∷ linesFrom [] (drop (i + n + 1) text))
 next-line text i n h e =
@@ -77,6 +77,6 @@ pub pushed-end : (line : List ℕ) (i : ℕ) (l whole : Line) → length line �
 unfolding pushedAll
 pushed-end line i l whole h w = sym (w ∙ ap (pushedAll l) (none-behind line i h))
 
--- how much of a text is left behind place i
+-- how much of a text is left after place i
 pub part-long : (text : List ℕ) (i : ℕ) → length (take (length text - i) (drop i text)) ≡ length text - i
 part-long text i = rw (rest i text) (length-drop i text)

@@ -29,7 +29,7 @@ use Rattle.cuttrace_lib.proofs.Codes.{put-code}
 use Rattle.cuttrace_lib.proofs.Places.{list-room}
 use Rattle.cuttrace_lib.proofs.Answers.{shows, shown-behind}
 
--- the list behind what it begins with
+-- the list after the prelude
 pub list-put : (front room₀ room : List ℕ) {p : ℕ} (o code : List ℕ) (u : ℕ) → Shows front p room room₀ → p ≤ length room → u ≤ length o → take u o ≡ code
     → take (p + u) (take p room ++ (o ++ drop (length room - p) (drop p room))) ≡ front ++ code
 list-put front room₀ room {p} o code u f h k e =
@@ -51,7 +51,7 @@ unfolding cuttrace playLines linesFrom
 trace-none [] memory scratch answers h = refl
 trace-none (c ∷ text) memory scratch answers h = absurd (omega arith)
 
--- the answers printed behind line 1's
+-- the answers printed after line 1's
 pub all-shown : (kind : SaveType) (text answers out o o' : List ℕ) (m from n k : ℕ) → m ≡ memorySize kind → from ≡ preludeRoom kind → n ≤ length out → Shows (lineOf 0 []) n o out
     → Shows (linesText m (linesFrom [] text) (take (length answers - from) (drop from answers))) k o' (take (length o - n) (drop n o))
     → Shows (acceptedText kind (linesFrom [] text) answers) (n + k) (take n o ++ (o' ++ drop (length o - n) (drop n o))) out

@@ -51,7 +51,7 @@ numbered-long of bad long n x (c ∷ text) h =
     (λ e. rw e (numbered-long of bad long n (16 * x + valueOf c) text h))
     (λ e. rw e)
 
--- "lines of any length": behind n digits of number x, the text to come
+-- "lines of any length": after n digits of number x, the text to come
 line-said : {A : Type 0} (of : ℕ → ℕ → A) (bad : A) → ((n x : ℕ) → 12 < n → of n x ≡ bad) → (n x : ℕ) (text : List ℕ) → n ≤ 12 → x < 2 ^ (4 * n) → readIn of bad (pushedAll (lineWith true n x) text) ≡ numbered of bad (n + length text) (numberFrom x text)
 unfolding numberFrom pushedAll pushed
 line-said of bad long n x [] m h = ap (λ (k : ℕ). of k x) (sym (add-zero n))

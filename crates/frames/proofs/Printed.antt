@@ -36,7 +36,7 @@ put-byte status bytes m i e h k f =
     put-digits (status ∷ take i bytes) m (getD bytes i 0) e (omega arith) f
     ∙ ap (λ (l : List ℕ). into (hex (status ∷ l)) m) (sym (ap (λ (n : ℕ). take n bytes) (add-one i) ∙ take-suc bytes i 0 h))
 
--- the status' digits stand before the loop begins, and are written but once
+-- the status' digits are there before the loop begins, and are written once
 pub put-status : (status : ℕ) (m : List ℕ) → 2 ≤ length m → set (set m 0 (character (status / 16 % 16))) 1 (character (status % 16)) ≡ into (hex (status ∷ [])) m
 unfolding into hex
 put-status status m h = put-digits [] m status 0 refl h

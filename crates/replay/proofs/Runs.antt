@@ -24,11 +24,11 @@ use Rattle.replay.proofs.Same.{plays-same, ends-same}
 abbrev pub itemsFrom : ℕ → List ℕ → List Place
 itemsFrom i list = items 0 (drop i list)
 
--- what was answered before, and what comes behind it
+-- what was answered before, and what comes after it
 abbrev behind : List ℕ → Answered → Answered
 behind front a = answered (front ++ a .bytes) (a .next)
 
--- front: the answers of the items before byte i; uncut: where the machine stands that is not cut
+-- front: the answers of the items before byte i; uncut: the state of the machine that is not cut
 pub record Ran (image list m₀ scratch₀ out₀ m scratch out : List ℕ) (cart : Cartridge) (at i : ℕ) : Type 0 where
   pub front : List ℕ
   pub uncut : State
@@ -63,7 +63,7 @@ ran-start image list m scratch out cart e r w h =
       wholeIs = refl;
     }
 
--- an answer that is put behind those before it
+-- an answer, put after those before it
 put-piece : (front o out₀ out : List ℕ) (at n : ℕ) → at ≡ length front → at ≤ length out₀ → out ≡ into front out₀ → length o ≡ n
     → take at out ++ (o ++ drop n (drop at out)) ≡ into (front ++ o) out₀
 unfolding into
@@ -100,7 +100,7 @@ module _ {image list m₀ scratch₀ out₀ m scratch out : List ℕ} {cart : Ca
       let w : itemLength (itemIn (drop i list)) ≡ k = ap itemLength (sym e) ∙ sym a in
       next-item list i h ∙ (λ j. record { item = sym e j; bytes = drop i list } ∷ itemsFrom (i + w j) list)
 
-  -- there is room for what it answers, and for what comes behind all items
+  -- there is room for what it answers, and for the ending
   pub has-room : i < length list → (item : Item) → item ≡ itemIn (drop i list) → at + itemRoom item + endingRoom (length m) ≤ length out₀
   has-room h item e =
       let g : room (itemsFrom i list) ≡ itemRoom item + room (itemsFrom (i + itemLength item) list) =
@@ -143,7 +143,7 @@ module _ {image list m₀ scratch₀ out₀ m scratch out : List ℕ} {cart : Ca
         wholeIs = r .wholeIs ∙ ap (λ (ps : List Place). behind (r .front) (playAll notCut ps t)) x ∙ played-more (r .front) here more t;
       }
 
-  -- what comes behind the last item
+  -- what comes after the last item
   pub ends : length list ≤ i → (n : ℕ) {o out' : List ℕ} → o ≡ ending (state cart m) → length o ≡ n → out' ≡ take at out ++ (o ++ drop n (drop at out))
       → _≡_ {A = List ℕ × List ℕ} (m, out') (shownBy (uncutRun (items 0 list) (fresh image)) out₀)
   unfolding uncutRun playAll items
