@@ -1,25 +1,28 @@
--- An encoded list. Each item is a frame of `carttrace` as bytes, its numbers high byte first; the frames that `carttrace` does not have are
--- 08 + length (4) + the file's bytes: load; 09 + length (4): export into that many zeros; 0A: a cut. The items stand one behind the other.
+-- An encoded list: its items one after the other. An item is a frame of `carttrace` as bytes, numbers high byte first.
+-- The frames that `carttrace` does not have are 08 + length (4) + the file's bytes: load; 09 + length (4): export into
+-- that many zeros; 0A: a cut.
 use mathlib.Core.Bool.{Bool, true, false, cond, _&&_, _||_}
 use mathlib.Core.List.{List, [], _∷_}
 use Prim.Native.Nat.{ℕ, zero, suc, _+_, _*_, _-_}
 use lib.Dec.{leb, eqb}
 use lib.ListN.{length, getD}
+use Rattle.cart.specs.ChipState.{stateSize}
 use Rattle.call_list.specs.declared.Item.{Item}
-use Rattle.call_list.specs.declared.Item.the-variants.{SaveRead, SaveWrite, EepromRead, EepromWrite, BeginDma, TakeFlag, ChipState, LoadSave, SaveData, Cut, Bad}
+use Rattle.call_list.specs.declared.Item.the-variants.{SaveRead, SaveWrite, EepromRead, EepromWrite, BeginDma}
+use Rattle.call_list.specs.declared.Item.the-variants.{TakeFlag, ChipState, LoadSave, SaveData, Cut, Bad}
 
--- the number in the two or four bytes behind the first
+-- the number in the two or four bytes after the first
 abbrev pub high16 : List ℕ → ℕ
 high16 l = getD l 2 0 + 256 * getD l 1 0
 
 abbrev pub high32 : List ℕ → ℕ
 high32 l = getD l 4 0 + 256 * (getD l 3 0 + 256 * (getD l 2 0 + 256 * getD l 1 0))
 
--- an item that takes n bytes stands in l
+-- i if its n bytes are all in l
 abbrev pub within : ℕ → List ℕ → Item → Item
 within n l i = cond (leb n (length l)) i Bad
 
--- what stands at the front of l
+-- the item at the front of l
 unfoldable pub itemIn : List ℕ → Item
 itemIn l =
     let tag = getD l 0 0 in
@@ -55,11 +58,15 @@ itemRoom EepromRead = 2
 itemRoom (EepromWrite v) = 1
 itemRoom (BeginDma words) = 1
 itemRoom TakeFlag = 1
-itemRoom ChipState = 19
+itemRoom ChipState = 1 + stateSize
 itemRoom (LoadSave n) = 1
 itemRoom (SaveData n) = 5 + n
 itemRoom Cut = 0
 itemRoom Bad = 0
+
+-- after the last answer come the file, from a destination of n bytes, as many as the memory has, and the chip state
+abbrev pub endingRoom : ℕ → ℕ
+endingRoom n = itemRoom (SaveData n) + itemRoom ChipState
 
 -- an item, and the bytes from its first on
 pub record Place : Type 0 where

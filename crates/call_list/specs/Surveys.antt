@@ -11,7 +11,9 @@ abbrev pub surveyWith : Bool → Bool → Bool → ℕ → Survey
 surveyWith good writes fits left = record { good = good; writes = writes; fits = fits; left = left }
 
 unfoldable pub surveyed : Survey → Item → Survey
-surveyed s i = surveyWith (s .good && isItem i) (s .writes || isWrite i) (s .fits && leb (itemRoom i) (s .left)) (s .left - itemRoom i)
+surveyed s i =
+    surveyWith (s .good && isItem i) (s .writes || isWrite i)
+    (s .fits && leb (itemRoom i) (s .left)) (s .left - itemRoom i)
 
 unfoldable pub surveyedAll : Survey → List Place → Survey
 surveyedAll s [] = s

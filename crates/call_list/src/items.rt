@@ -1,12 +1,15 @@
-// What stands at the front of an encoded list, how many bytes it takes there, and how many its answer takes.
+// The item at the front of an encoded list, how many bytes it takes there, and how many its answer takes.
 use crate::Item;
+use cart::STATE_SIZE;
 use lists::low16;
 use lists::low32;
 ghost use mathlib.Core.Path.{_≡_};
 ghost use Prim.Native.Nat.{_+_, _≤_, _<_};
 ghost use lib.ListN.{length, getD};
-ghost use Rattle.call_list.specs.declared.Item.the-variants.{SaveRead, SaveWrite, EepromWrite, BeginDma, LoadSave, SaveData};
-ghost use Rattle.call_list.specs.Items.{high16 as high16·spec, high32 as high32·spec, within, itemIn, itemLength, itemRoom};
+ghost use Rattle.call_list.specs.declared.Item.the-variants.{SaveRead, SaveWrite, EepromWrite};
+ghost use Rattle.call_list.specs.declared.Item.the-variants.{BeginDma, LoadSave, SaveData};
+ghost use Rattle.call_list.specs.Items.{high16 as high16·spec, high32 as high32·spec, within, itemIn};
+ghost use Rattle.call_list.specs.Items.{itemLength, itemRoom, endingRoom};
 
 fn high16(l: &[u8]) -> u16
     requires { ⌜ 3 ≤ length (now l) ⌝ }
@@ -32,7 +35,8 @@ fn read_in(l: &[u8]) -> Item
 }
 
 fn write_in(l: &[u8]) -> Item
-    ensures { λ r. ⌜ r ≡ within 6 (now (l .entry)) (SaveWrite (high32·spec (now (l .entry))) (getD (now (l .entry)) 5 0)) ⌝ }
+    ensures { λ r. ⌜ r
+        ≡ within 6 (now (l .entry)) (SaveWrite (high32·spec (now (l .entry))) (getD (now (l .entry)) 5 0)) ⌝ }
 {
     if l.len() < 6 {
         return Item::Bad;
@@ -59,7 +63,8 @@ fn dma_in(l: &[u8]) -> Item
 }
 
 fn load_in(l: &[u8]) -> Item
-    ensures { λ r. ⌜ r ≡ within (5 + high32·spec (now (l .entry))) (now (l .entry)) (LoadSave (high32·spec (now (l .entry)))) ⌝ }
+    ensures { λ r. ⌜ r
+        ≡ within (5 + high32·spec (now (l .entry))) (now (l .entry)) (LoadSave (high32·spec (now (l .entry)))) ⌝ }
 {
     if l.len() < 5 {
         return Item::Bad;
@@ -130,10 +135,18 @@ pub fn item_room(item: Item) -> usize
         Item::EepromWrite(_) => 1,
         Item::BeginDma(_) => 1,
         Item::TakeFlag => 1,
-        Item::ChipState => 19,
+        Item::ChipState => 1 + STATE_SIZE,
         Item::LoadSave(_) => 1,
         Item::SaveData(n) => 5 + n,
         Item::Cut => 0,
         Item::Bad => 0,
     }
+}
+
+// After the last item's answer: an export into as many bytes as the memory has, and `chip_state`.
+pub fn ending_room(memory: usize) -> usize
+    requires { ⌜ memory ≤ 131072 ⌝ }
+    ensures { λ r. ⌜ r ≡ endingRoom memory ⌝ }
+{
+    item_room(Item::SaveData(memory)) + item_room(Item::ChipState)
 }

@@ -1,14 +1,15 @@
-// A list of calls and cuts, encoded: what stands at each place of it, and whether it can be played.
+// A list of calls and cuts, encoded: which item is at each place, and whether the list can be played.
 
 mod items;
 mod surveying;
 
+pub use items::ending_room;
 pub use items::item_in;
 pub use items::item_length;
 pub use items::item_room;
 pub use surveying::ask_list;
 
-// What stands at one place of an encoded list. A file stands behind its length.
+// One item of an encoded list. The bytes of a file follow its length.
 pub enum Item {
     SaveRead(u32),
     SaveWrite(u32, u8),
@@ -23,8 +24,8 @@ pub enum Item {
     Bad,
 }
 
-// A list looked through: whether all is items, whether a byte write is among them, whether the answers fit into so many bytes, and how many of
-// these are left.
+// What is known of a list: whether it has only items, whether a byte write is among them, whether the answers fit
+// into the output, and how many bytes of the output are left.
 pub struct Survey {
     pub good: bool,
     pub writes: bool,

@@ -1,6 +1,7 @@
-// A list looked through before it is played.
+// The questions that are asked of a list before it is played.
 use crate::Item;
 use crate::Survey;
+use crate::items::ending_room;
 use crate::items::item_in;
 use crate::items::item_length;
 use crate::items::item_room;
@@ -66,7 +67,7 @@ fn either(a: bool, b: bool) -> bool
     b
 }
 
-fn left_behind(left: usize, n: usize) -> usize
+fn room_after(left: usize, n: usize) -> usize
     ensures { λ r. ⌜ r ≡ left - n ⌝ }
 {
     if left < n {
@@ -84,11 +85,11 @@ fn surveyed(s: Survey, item: Item) -> Survey
         good: both(s.good, is_item(item)),
         writes: either(s.writes, is_write(item)),
         fits: both(s.fits, n <= s.left),
-        left: left_behind(s.left, n),
+        left: room_after(s.left, n),
     }
 }
 
-// Whether answers fit is asked of so many bytes.
+// `left` is how many bytes of output there are for the answers.
 fn survey(list: &[u8], left: usize) -> Survey
     ensures { λ r. ⌜ r ≡ surveyedAll (surveyWith true false true left) (items 0 (now (list .entry))) ⌝ }
 {
@@ -112,8 +113,8 @@ pub fn ask_list(list: &[u8], eeprom: bool, memory: usize, scratch: usize, out: u
     requires { ⌜ memory ≤ 131072 ⌝ }
     ensures { λ r. ⌜ r ≡ asked (listQuestions (items 0 (now (list .entry))) eeprom memory scratch out) ⌝ }
 {
-    let end = 24 + memory;
-    let s = survey(list, left_behind(out, end));
+    let end = ending_room(memory);
+    let s = survey(list, room_after(out, end));
     if !s.good {
         return 0xFF;
     }

@@ -1,5 +1,5 @@
-// carttrace: reads frames, a line each, and prints an answer for each. All that it does to them is proved in the crate `trace`; here they
-// are read and written, a piece of the input at a time, so that neither the input nor a line has a longest.
+// carttrace: reads frames, one a line, and prints an answer for each. This is proved in the crate `carttrace_lib`; the
+// program reads and writes. It takes the input in pieces, so that input and lines may be of any length.
 
 use carttrace_lib::Session;
 use carttrace_lib::feed;
@@ -45,7 +45,7 @@ fn piece(session: Session, memory: &mut [u8], out: &mut [u8]) -> Turn
     }
 }
 
-// To the input's end. Nothing says that an input ends, so the turns are counted down from a number that no run uses up.
+// Reads to the end of the input. The loop needs a measure, so the turns count down from a number that no run reaches.
 fn pieces(memory: &mut [u8], out: &mut [u8]) -> Session
     requires { ⌜ 131072 ≤ length (now memory) ⌝ }
     requires { ⌜ 65536 ≤ length (now out) ⌝ }

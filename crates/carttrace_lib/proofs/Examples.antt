@@ -6,9 +6,10 @@ use Rattle.memory.specs.Memory.{erased}
 use Rattle.image.specs.Image.{imageLength}
 use Rattle.flash.specs.Flash.{stateAllowed}
 use Rattle.eeprom.specs.Eeprom.{widthAllowed, w, tells6, tells14, beginDma, dmaQuestion, readBit, afterRead}
-use Rattle.cart.specs.ChipState.{phaseOf, chipBytes, stateQuestions}
+use Rattle.cart.specs.ChipState.{phaseOf, chipBytes, fieldQuestions}
 use Rattle.cart.specs.Record.{recordAllowed, freshCart}
 use Rattle.cart.specs.Calls.{readSave, questions, accepted, step}
+use Rattle.byte_step.specs.ByteStep.{readByte}
 use Rattle.hex.specs.Hex.{character, valueOf, hex}
 use Rattle.frames.specs.Frames.{numberFrom, frameOf, frame, freshOf, firstLine, lineOf}
 use Rattle.carttrace_lib.specs.Trace.{freshKind, play, playAll, playLines, linesFrom, carttrace}
@@ -22,5 +23,5 @@ record Runs : Type 0 where
   bad : carttrace (ascii "00\n\n3\n03 \n0a\n08\n0100000000\n040000\n") ≡ ascii "00\nFF\nFF\nFF\nFF\nFF\n00FF\n04\n"
 
 runs : Runs
-unfolding lowFirst erased imageLength stateAllowed widthAllowed w tells6 tells14 beginDma dmaQuestion readBit afterRead phaseOf chipBytes stateQuestions recordAllowed freshCart readSave questions accepted step character valueOf numberFrom hex frameOf frame freshOf firstLine lineOf freshKind play playAll playLines linesFrom carttrace
+unfolding lowFirst erased imageLength stateAllowed widthAllowed w tells6 tells14 beginDma dmaQuestion readBit afterRead phaseOf chipBytes fieldQuestions recordAllowed freshCart readByte readSave questions accepted step character valueOf numberFrom hex frameOf frame freshOf firstLine lineOf freshKind play playAll playLines linesFrom carttrace
 runs = record { whole = refl; unended = refl; nothing = refl; empty = refl; noKind = refl; bad = refl }

@@ -1,4 +1,4 @@
--- `carttrace` as its characters come in, however the input is cut into pieces: what is carried from one to the next, and what is printed.
+-- `carttrace` character by character, however the input is cut into pieces: the state after each, and what is printed.
 use mathlib.Core.Bool.{Bool, cond, _&&_}
 use mathlib.Core.List.{List, [], _∷_, _++_}
 use Prim.Native.Nat.{ℕ}
@@ -27,7 +27,7 @@ sessionWith stage line cart = record { stage = stage; line = line; cart = cart }
 unfoldable pub opened : Session
 opened = sessionWith First emptyLine (freshCart 0 None)
 
--- what a character, or a line's end, prints and leaves; the memory of every kind lies at the front of one buffer
+-- what a character, or a line's end, prints and leaves; the memory of every kind is at the front of one buffer
 pub record Heard : Type 0 where
   pub text : List ℕ
   pub session : Session
@@ -36,7 +36,7 @@ pub record Heard : Type 0 where
 abbrev pub heard : List ℕ → Session → List ℕ → Heard
 heard text session memory = record { text = text; session = session; memory = memory }
 
--- line 1 at its end, a later line at its end
+-- at the end of line 1, and of a later line
 unfoldable pub begun : FirstLine → Session → List ℕ → Heard
 begun (Fresh kind) s m =
     let n = memorySize kind in

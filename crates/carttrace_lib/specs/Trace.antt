@@ -1,7 +1,7 @@
 -- The program `carttrace`. Document 01, "Beside the machine".
 use mathlib.Core.Bool.{cond}
 use mathlib.Core.List.{List, [], _∷_, _++_}
-use Prim.Native.Nat.{ℕ}
+use Prim.Native.Nat.{ℕ, _+_, _*_}
 use lib.Dec.{eqb}
 use lib.ListN.{length}
 use Rattle.lists.specs.Lists.{into}
@@ -10,13 +10,15 @@ use Rattle.kind.specs.declared.SaveType.{SaveType}
 use Rattle.kind.specs.Kind.{memorySize}
 use Rattle.cart.specs.declared.Cartridge.{Cartridge}
 use Rattle.cart.specs.declared.Reply.{Reply}
-use Rattle.cart.specs.ChipState.{bit}
+use Rattle.cart.specs.ChipState.{bit, stateSize}
 use Rattle.cart.specs.Record.{State, Outcome, freshCart}
-use Rattle.cart.specs.Calls.{saveRead, saveWrite, eepromBeginDma, eepromWrite, eepromRead, chipState, takeSaveDirty, step}
+use Rattle.cart.specs.Calls.{saveRead, saveWrite, eepromBeginDma, eepromWrite, eepromRead}
+use Rattle.cart.specs.Calls.{chipState, takeSaveDirty, step}
 use Rattle.cart.specs.Replies.{state}
 use Rattle.state_calls.specs.declared.StateAnswer.{StateAnswer}
 use Rattle.frames.specs.declared.Frame.{Frame}
-use Rattle.frames.specs.declared.Frame.the-variants.{SaveRead, SaveWrite, EepromRead, EepromWrite, BeginDma, TakeFlag, ChipState, Bad}
+use Rattle.frames.specs.declared.Frame.the-variants.{SaveRead, SaveWrite, EepromRead, EepromWrite}
+use Rattle.frames.specs.declared.Frame.the-variants.{BeginDma, TakeFlag, ChipState, Bad}
 use Rattle.frames.specs.declared.FirstLine.{FirstLine}
 use Rattle.frames.specs.declared.FirstLine.the-variants.{Fresh, NoKind}
 use Rattle.frames.specs.Frames.{frame, firstLine, lineOf}
@@ -32,9 +34,11 @@ abbrev pub printed : Outcome → Printed
 printed o = record { text = lineOf (o .refusal) (o .given); next = o .next }
 
 abbrev pub flagPrinted : Outcome → Printed
-flagPrinted o = record { text = lineOf (o .refusal) (cond (eqb (o .refusal) 0) (bit (o .flag) ∷ []) []); next = o .next }
+flagPrinted o =
+    record { text = lineOf (o .refusal) (cond (eqb (o .refusal) 0) (bit (o .flag) ∷ []) []); next = o .next }
 
--- "01 .. byte read; 02 .. write; 03 serial read; 04 .. serial write; 05 .. DMA; 06 take flag; 07 chip record"; "FF for a bad line"
+-- "01 .. byte read; 02 .. write; 03 serial read; 04 .. serial write; 05 .. DMA; 06 take flag; 07 chip record"; "FF for
+-- a bad line"
 unfoldable pub play : Frame → State → Printed
 play (SaveRead a) s = printed (step (saveRead a) [] s)
 play (SaveWrite a v) s = printed (step (saveWrite a v) [] s)
@@ -62,7 +66,8 @@ unfoldable pub playLines : List (List ℕ) → List ℕ
 playLines [] = []
 playLines (line ∷ lines) = playFrom (firstLine line) lines
 
--- "Each line ends with a line feed, the last one with or without": the lines of a text, behind the characters that began its first line
+-- "Each line ends with a line feed, the last one with or without": the lines of a text after the characters that began
+-- its first line
 abbrev pub lastLine : List ℕ → List (List ℕ)
 lastLine [] = []
 lastLine (c ∷ line) = (c ∷ line) ∷ []
@@ -74,7 +79,7 @@ linesFrom line (c ∷ text) = cond (eqb c 0x0a) (line ∷ linesFrom [] text) (li
 unfoldable pub carttrace : List ℕ → List ℕ
 carttrace input = playLines (linesFrom [] input)
 
--- what a call returned, as a line: its status alone, with its number, with the 18 bytes
+-- what a call returned, as a line: its status alone, with its number, with the chip state
 abbrev pub statusLine : Reply → List ℕ
 statusLine r = lineOf (r .refusal) []
 
@@ -84,7 +89,11 @@ valueLine r = lineOf (r .refusal) (cond (eqb (r .refusal) 0) (r .value ∷ []) [
 abbrev pub stateLine : StateAnswer → List ℕ
 stateLine a = lineOf (a .refusal) (cond (eqb (a .refusal) 0) (a .bytes) [])
 
--- a text at the front of the output, and its length; with the record; and so what a frame leaves
+-- no line is longer: a status, the chip state, a line feed
+abbrev pub longestLine : ℕ
+longestLine = 2 + 2 * stateSize + 1
+
+-- a text at the front of the output, and its length; with the record; and what a frame leaves
 abbrev pub written : List ℕ → List ℕ → ℕ × List ℕ
 written text out = (length text, into text out)
 

@@ -1,4 +1,4 @@
-// The characters of the input, one after the other.
+// The input, character by character.
 
 use crate::Session;
 use crate::Stage;
@@ -15,11 +15,15 @@ use frames::frame_in;
 use frames::push;
 use kind::SaveType;
 use kind::memory_size;
-use memory::erase;
+use memory::NO_FILE;
+use memory::Store;
+use memory::apply;
 ghost use mathlib.Core.Path.{_≡_};
 ghost use Prim.Native.Nat.{_*_, _≤_};
 ghost use lib.ListN.{length};
-ghost use Rattle.carttrace_lib.specs.Session.{sessionWith, opened as opened·spec, begun, continued, lineEnded, took, tookAll, finished, isEmpty, toldWith, told};
+ghost use Rattle.carttrace_lib.specs.Session.{sessionWith, opened as opened·spec, begun, continued, lineEnded};
+ghost use Rattle.carttrace_lib.specs.Session.{took, tookAll, finished, isEmpty, toldWith, told};
+ghost use Rattle.carttrace_lib.specs.Trace.{longestLine};
 
 fn session_with(stage: Stage, line: Line, cart: Cartridge) -> Session
     ensures { λ r. ⌜ r ≡ sessionWith stage line cart ⌝ }
@@ -46,16 +50,17 @@ pub fn opened() -> Session
     session_with(Stage::First, empty_line(), fresh_cart(0, SaveType::None))
 }
 
-// Line 1 at its end.
+// At the end of line 1.
 fn begin(first: FirstLine, session: Session, memory: &mut [u8], out: &mut [u8]) -> Told
     requires { ⌜ 131072 ≤ length (now memory) ⌝ }
-    requires { ⌜ 39 ≤ length (now out) ⌝ }
-    ensures { λ r. ⌜ (r, now (memory .exit), now (out .exit)) ≡ told (begun first session (now (memory .entry))) (now (out .entry)) ⌝ }
+    requires { ⌜ longestLine ≤ length (now out) ⌝ }
+    ensures { λ r. ⌜ (r, now (memory .exit), now (out .exit))
+        ≡ told (begun first session (now (memory .entry))) (now (out .entry)) ⌝ }
 {
     match first {
         FirstLine::Fresh(kind) => {
             let n = memory_size(kind);
-            erase(&mut memory[..n]);
+            apply(Store::Chip, &NO_FILE, &mut memory[..n]);
             told_with(
                 session_with(Stage::Playing, empty_line(), fresh_cart(192, kind)),
                 print_status(out, 0),
@@ -71,11 +76,12 @@ fn begin(first: FirstLine, session: Session, memory: &mut [u8], out: &mut [u8]) 
     }
 }
 
-// A later line at its end.
+// At the end of a later line.
 fn go_on(session: Session, memory: &mut [u8], out: &mut [u8]) -> Told
     requires { ⌜ 131072 ≤ length (now memory) ⌝ }
-    requires { ⌜ 39 ≤ length (now out) ⌝ }
-    ensures { λ r. ⌜ (r, now (memory .exit), now (out .exit)) ≡ told (continued session (now (memory .entry))) (now (out .entry)) ⌝ }
+    requires { ⌜ longestLine ≤ length (now out) ⌝ }
+    ensures { λ r. ⌜ (r, now (memory .exit), now (out .exit))
+        ≡ told (continued session (now (memory .entry))) (now (out .entry)) ⌝ }
 {
     let cart = session.cart;
     let line = session.line;
@@ -88,8 +94,9 @@ fn go_on(session: Session, memory: &mut [u8], out: &mut [u8]) -> Told
 
 fn end_line(session: Session, memory: &mut [u8], out: &mut [u8]) -> Told
     requires { ⌜ 131072 ≤ length (now memory) ⌝ }
-    requires { ⌜ 39 ≤ length (now out) ⌝ }
-    ensures { λ r. ⌜ (r, now (memory .exit), now (out .exit)) ≡ told (lineEnded session (now (memory .entry))) (now (out .entry)) ⌝ }
+    requires { ⌜ longestLine ≤ length (now out) ⌝ }
+    ensures { λ r. ⌜ (r, now (memory .exit), now (out .exit))
+        ≡ told (lineEnded session (now (memory .entry))) (now (out .entry)) ⌝ }
 {
     let stage = session.stage;
     let line = session.line;
@@ -102,8 +109,9 @@ fn end_line(session: Session, memory: &mut [u8], out: &mut [u8]) -> Told
 
 fn take_in(session: Session, c: u8, memory: &mut [u8], out: &mut [u8]) -> Told
     requires { ⌜ 131072 ≤ length (now memory) ⌝ }
-    requires { ⌜ 39 ≤ length (now out) ⌝ }
-    ensures { λ r. ⌜ (r, now (memory .exit), now (out .exit)) ≡ told (took session c (now (memory .entry))) (now (out .entry)) ⌝ }
+    requires { ⌜ longestLine ≤ length (now out) ⌝ }
+    ensures { λ r. ⌜ (r, now (memory .exit), now (out .exit))
+        ≡ told (took session c (now (memory .entry))) (now (out .entry)) ⌝ }
 {
     if c == 0x0A {
         return end_line(session, memory, out);
@@ -114,11 +122,12 @@ fn take_in(session: Session, c: u8, memory: &mut [u8], out: &mut [u8]) -> Told
     told_with(session_with(stage, push(line, c), cart), 0)
 }
 
-// A piece of the input; what it prints goes to the front of the output.
+// Takes a piece of the input. What it prints goes to the front of the output.
 pub fn feed(session: Session, input: &[u8], memory: &mut [u8], out: &mut [u8]) -> Told
     requires { ⌜ 131072 ≤ length (now memory) ⌝ }
-    requires { ⌜ 39 * length (now input) ≤ length (now out) ⌝ }
-    ensures { λ r. ⌜ (r, now (memory .exit), now (out .exit)) ≡ told (tookAll (now (input .entry)) session (now (memory .entry))) (now (out .entry)) ⌝ }
+    requires { ⌜ longestLine * length (now input) ≤ length (now out) ⌝ }
+    ensures { λ r. ⌜ (r, now (memory .exit), now (out .exit))
+        ≡ told (tookAll (now (input .entry)) session (now (memory .entry))) (now (out .entry)) ⌝ }
     ensures { λ r. ⌜ r .len ≤ length (now (out .entry)) ⌝ }
 {
     let mut s = session;
@@ -133,11 +142,12 @@ pub fn feed(session: Session, input: &[u8], memory: &mut [u8], out: &mut [u8]) -
     told_with(s, len)
 }
 
-// Behind the whole input: a last line without a line feed.
+// After the whole input: a last line without a line feed.
 pub fn finish(session: Session, memory: &mut [u8], out: &mut [u8]) -> Told
     requires { ⌜ 131072 ≤ length (now memory) ⌝ }
-    requires { ⌜ 39 ≤ length (now out) ⌝ }
-    ensures { λ r. ⌜ (r, now (memory .exit), now (out .exit)) ≡ told (finished session (now (memory .entry))) (now (out .entry)) ⌝ }
+    requires { ⌜ longestLine ≤ length (now out) ⌝ }
+    ensures { λ r. ⌜ (r, now (memory .exit), now (out .exit))
+        ≡ told (finished session (now (memory .entry))) (now (out .entry)) ⌝ }
     ensures { λ r. ⌜ r .len ≤ length (now (out .entry)) ⌝ }
 {
     let line = session.line;

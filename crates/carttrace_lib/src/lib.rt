@@ -1,4 +1,4 @@
-// carttrace as a library: frame to call, answer to line, and characters to lines.
+// carttrace as a library: characters to lines, lines to calls, answers to lines.
 
 mod characters;
 mod one_frame;
@@ -10,27 +10,27 @@ pub use characters::opened;
 use frames::Line;
 pub use one_frame::play;
 
-// The record behind a frame, and how long the line is.
+// The record after a frame, and the length of its line.
 pub struct Played {
     pub cart: Cartridge,
     pub len: usize,
 }
 
-// Whether line 1 has come, and whether it was a kind.
+// Before line 1; after a line 1 that named a kind; after one that did not.
 pub enum Stage {
     First,
     Playing,
     Over,
 }
 
-// What is carried from character to character.
+// The state between two characters.
 pub struct Session {
     pub stage: Stage,
     pub line: Line,
     pub cart: Cartridge,
 }
 
-// The session behind some input, and how much was printed.
+// The session after some input, and the length of what it printed.
 pub struct Told {
     pub session: Session,
     pub len: usize,

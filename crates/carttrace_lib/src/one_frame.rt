@@ -1,4 +1,4 @@
-// A frame as a call, and its answer as a line.
+// A frame, played as its call, and the answer as a line.
 
 use crate::Played;
 use byte_calls::save_read;
@@ -17,10 +17,11 @@ ghost use mathlib.Core.Path.{_≡_};
 ghost use mathlib.Core.List.{[]};
 ghost use Prim.Native.Nat.{_≤_};
 ghost use lib.ListN.{length};
-ghost use Rattle.lists.specs.Lists.{into};
+ghost use Rattle.cart.specs.ChipState.{stateSize};
 ghost use Rattle.cart.specs.Replies.{state};
 ghost use Rattle.frames.specs.Frames.{lineOf};
-ghost use Rattle.carttrace_lib.specs.Trace.{play as play·spec, statusLine, valueLine, stateLine, written, playedWith, left, shown};
+ghost use Rattle.carttrace_lib.specs.Trace.{longestLine, play as play·spec, statusLine, valueLine, stateLine};
+ghost use Rattle.carttrace_lib.specs.Trace.{written, playedWith, left, shown};
 
 // A status alone.
 pub fn print_status(out: &mut [u8], status: u8) -> usize
@@ -32,7 +33,7 @@ pub fn print_status(out: &mut [u8], status: u8) -> usize
 
 // 00 and the byte that a call answers, or its refusal.
 fn print_value(out: &mut [u8], reply: Reply) -> usize
-    requires { ⌜ 39 ≤ length (now out) ⌝ }
+    requires { ⌜ longestLine ≤ length (now out) ⌝ }
     ensures { λ r. ⌜ (r, now (out .exit)) ≡ written (valueLine reply) (now (out .entry)) ⌝ }
 {
     if reply.refusal != 0 {
@@ -43,8 +44,8 @@ fn print_value(out: &mut [u8], reply: Reply) -> usize
 }
 
 fn print_state(out: &mut [u8], state: StateAnswer) -> usize
-    requires { ⌜ 39 ≤ length (now out) ⌝ }
-    requires { ⌜ length (state .bytes) ≡ 18 ⌝ }
+    requires { ⌜ longestLine ≤ length (now out) ⌝ }
+    requires { ⌜ length (state .bytes) ≡ stateSize ⌝ }
     ensures { λ r. ⌜ (r, now (out .exit)) ≡ written (stateLine state) (now (out .entry)) ⌝ }
 {
     if state.refusal != 0 {
@@ -64,7 +65,7 @@ fn played_with(cart: Cartridge, len: usize) -> Played
 }
 
 fn show_status(reply: Reply, out: &mut [u8]) -> Played
-    requires { ⌜ 39 ≤ length (now out) ⌝ }
+    requires { ⌜ longestLine ≤ length (now out) ⌝ }
     ensures { λ r. ⌜ (r, now (out .exit)) ≡ left (reply .cart) (statusLine reply) (now (out .entry)) ⌝ }
 {
     let cart = reply.cart;
@@ -72,7 +73,7 @@ fn show_status(reply: Reply, out: &mut [u8]) -> Played
 }
 
 fn show_value(reply: Reply, out: &mut [u8]) -> Played
-    requires { ⌜ 39 ≤ length (now out) ⌝ }
+    requires { ⌜ longestLine ≤ length (now out) ⌝ }
     ensures { λ r. ⌜ (r, now (out .exit)) ≡ left (reply .cart) (valueLine reply) (now (out .entry)) ⌝ }
 {
     let cart = reply.cart;
@@ -81,8 +82,9 @@ fn show_value(reply: Reply, out: &mut [u8]) -> Played
 
 // The call that a frame names.
 pub fn play(frame: Frame, cart: Cartridge, memory: &mut [u8], out: &mut [u8]) -> Played
-    requires { ⌜ 39 ≤ length (now out) ⌝ }
-    ensures { λ r. ⌜ (r, now (memory .exit), now (out .exit)) ≡ shown (play·spec frame (state cart (now (memory .entry)))) (now (out .entry)) ⌝ }
+    requires { ⌜ longestLine ≤ length (now out) ⌝ }
+    ensures { λ r. ⌜ (r, now (memory .exit), now (out .exit))
+        ≡ shown (play·spec frame (state cart (now (memory .entry)))) (now (out .entry)) ⌝ }
 {
     match frame {
         Frame::SaveRead(address) => show_value(save_read(cart, memory, address), out),

@@ -1,9 +1,9 @@
-// cuttrace: reads a trace, a line each call, with loads, exports and cuts, replays it, and prints an answer for each line but a cut.
-// All that it does to them is proved in the crate `cut_lines`; here the trace is read and what it prints is written.
+// cuttrace: reads a trace, one call a line, with loads, exports and cuts, replays it, and prints an answer for each
+// line but a cut. This is proved in the crate `cuttrace_lib`; the program reads and writes.
 //
-// Line 1 is a kind, as in carttrace: 00 None, 01 Sram, 02 Flash64, 04 Eeprom512, 05 Eeprom8k. An Eeprom8k cartridge's image is longer than
-// 16 MiB, for which there is no room here: 05 is played as an Eeprom512 whose list of calls begins with a load of 8,192 erased bytes. That makes
-// the chip large; from there on the two answer the same.
+// Line 1 is a kind, as in carttrace: 00 None, 01 Sram, 02 Flash64, 04 Eeprom512, 05 Eeprom8k. An Eeprom8k cartridge has
+// an image above 16 MiB, for which there is no room here, so 05 is played as an Eeprom512 whose list begins with a load
+// of 8,192 erased bytes. The load makes the chip large; from there on the two answer the same.
 
 use cuttrace_lib::answers_room;
 use cuttrace_lib::output_room;

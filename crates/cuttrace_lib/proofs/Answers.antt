@@ -16,13 +16,9 @@ use Rattle.frames.specs.Frames.{lineOf}
 use Rattle.frames.proofs.Printed.{length-line}
 use Rattle.call_list.specs.declared.Item.{Item}
 use Rattle.call_list.specs.declared.Item.the-variants.{Bad}
-use Rattle.call_list.specs.Items.{high32, isItem}
-use Rattle.cuttrace_lib.specs.Printing.{answerText, itemText, fileText, endingText}
+use Rattle.call_list.specs.Items.{high32, isItem, endingRoom}
+use Rattle.cuttrace_lib.specs.Printing.{Shows, answerText, itemText, fileText, endingText}
 use Rattle.carttrace_lib.proofs.Feeding.{put-behind}
-
--- a text at the front of the output, and its length
-abbrev pub Shows : List ℕ → ℕ → List ℕ → List ℕ → Type 0
-Shows text n o' o = (n ≡ length text) × (o' ≡ into text o)
 
 pub shows : {text line : List ℕ} {n : ℕ} {o' : List ℕ} (o : List ℕ) → text ≡ line → n ≡ length line → o' ≡ into line o → Shows text n o' o
 shows o e l k = (l ∙ ap length (sym e), k ∙ ap (λ (t : List ℕ). into t o) (sym e))
@@ -92,13 +88,11 @@ part-part zero n a = rw zero-add (take-take n n a (omega arith))
 part-part (suc p) n [] = rw (take-nil (suc p + n))
 part-part (suc p) n (x ∷ a) = rw suc-add (part-part p n a)
 
-pub ending-part : (m : ℕ) (a : List ℕ) → endingText m (take (24 + m) a) ≡ endingText m a
+pub ending-part : (m : ℕ) (a : List ℕ) → endingText m (take (endingRoom m) a) ≡ endingText m a
 unfolding endingText
-ending-part m a =
-    let e : 24 + m ≡ 5 + m + 19 = omega arith in
-    rw (e, take-take (5 + m) (5 + m + 19) a (omega arith), part-part (5 + m) 19 a)
+ending-part m a = rw (take-take (5 + m) (endingRoom m) a (omega arith), part-part (5 + m) 19 a)
 
-pub ending-shown : (m : ℕ) (a out o o' : List ℕ) (n k : ℕ) → length a ≡ 24 + m → n ≤ length out → Shows (fileText (take (5 + m) a)) n o out
+pub ending-shown : (m : ℕ) (a out o o' : List ℕ) (n k : ℕ) → length a ≡ endingRoom m → n ≤ length out → Shows (fileText (take (5 + m) a)) n o out
     → Shows (answerText (take (length a - (5 + m)) (drop (5 + m) a))) k o' (take (length o - n) (drop n o))
     → Shows (endingText m a) (n + k) (take n o ++ (o' ++ drop (length o - n) (drop n o))) out
 unfolding endingText
@@ -114,12 +108,12 @@ pub item-good : (i : Item) (a : List ℕ) → isItem i ≡ true → itemText i a
 unfolding itemText
 item-good i a e = rw e
 
-pub file-fits : (m : ℕ) (a : List ℕ) → length a ≡ 24 + m → length (fileText (take (5 + m) a)) ≤ 2 * (5 + m)
+pub file-fits : (m : ℕ) (a : List ℕ) → length a ≡ endingRoom m → length (fileText (take (5 + m) a)) ≤ 2 * (5 + m)
 file-fits m a h =
     let l = length-take-le (5 + m) a (omega arith) in
     omega (arith, l, file-short (take (5 + m) a) (omega (arith, l)))
 
-pub ending-short : (m : ℕ) (a : List ℕ) → length a ≡ 24 + m → length (endingText m a) ≤ 2 * (24 + m) + 1
+pub ending-short : (m : ℕ) (a : List ℕ) → length a ≡ endingRoom m → length (endingText m a) ≤ 2 * endingRoom m + 1
 unfolding endingText
 ending-short m a h =
     omega (arith, length-append (fileText (take (5 + m) a)) (answerText (take 19 (drop (5 + m) a))), file-fits m a h, answer-short (take 19 (drop (5 + m) a)), length-take 19 (drop (5 + m) a))

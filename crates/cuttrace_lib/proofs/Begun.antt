@@ -1,7 +1,7 @@
 -- The image and what the list begins with. Assumes nothing.
 use mathlib.Core.Path.{_≡_, sym, ap, _∙_}
 use mathlib.Core.List.{List, [], _∷_, _++_}
-use Prim.Native.Nat.{ℕ, suc, _+_, _-_, _≤_}
+use Prim.Native.Nat.{ℕ, suc, _+_, _≤_}
 use native.Mathlib.Omega.{arith}
 use lib.ListN.{length, take, drop, replicate, length-replicate, length-drop}
 use lib.Seq.{drop-at, drop-drop, length-take-le}
@@ -11,7 +11,8 @@ use Rattle.memory.proofs.Memory.{length-erased}
 use Rattle.kind.specs.declared.SaveType.{SaveType}
 use Rattle.kind.specs.declared.SaveType.the-variants.{None, Sram, Flash64, Flash128, Eeprom512, Eeprom8k}
 use Rattle.cuttrace_lib.specs.Setup.{mark, imageOf, prelude}
-use Rattle.cuttrace_lib.proofs.Answers.{Shows, shows, shows-none}
+use Rattle.cuttrace_lib.specs.Printing.{Shows}
+use Rattle.cuttrace_lib.proofs.Answers.{shows, shows-none}
 
 pub marked : {kind k : SaveType} (image o o' : List ℕ) → kind ≡ k → length image ≡ 192 → o ≡ replicate (length image) 0 → o' ≡ into (mark k) o → o' ≡ imageOf kind
 unfolding imageOf

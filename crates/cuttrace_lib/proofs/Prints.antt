@@ -8,25 +8,25 @@ use lib.Seq.{drop-drop}
 use Rattle.lists.proofs.Parts.{length-into}
 use Rattle.carttrace_lib.specs.Trace.{linesFrom}
 use Rattle.call_list.specs.declared.Item.{Item}
-use Rattle.call_list.specs.Items.{itemRoom}
+use Rattle.call_list.specs.Items.{itemRoom, endingRoom}
 use Rattle.cuttrace_lib.specs.Lines.{lineLength, lineItem}
-use Rattle.cuttrace_lib.specs.Printing.{itemText, endingText, linesText, linesRoom}
+use Rattle.cuttrace_lib.specs.Printing.{Shows, itemText, endingText, linesText, linesRoom}
 use Rattle.cuttrace_lib.proofs.Texts.{next-line, no-line, part-long}
-use Rattle.cuttrace_lib.proofs.Answers.{Shows, shows, shows-none, shown-behind, item-short, ending-part}
+use Rattle.cuttrace_lib.proofs.Answers.{shows, shows-none, shown-behind, item-short, ending-part}
 
 -- front: the text of the lines before place i
 pub record Printed (text : List ℕ) (m : ℕ) (answers room₀ out₀ room out : List ℕ) (len at i : ℕ) : Type 0 where
   pub front : List ℕ
   pub placeOk : i ≤ length text + 1
   pub lenOk : len ≤ 2 * at + 3 * i
-  pub atOk : at + (linesRoom (linesFrom [] (drop i text)) + (24 + m)) ≤ length answers
+  pub atOk : at + (linesRoom (linesFrom [] (drop i text)) + endingRoom m) ≤ length answers
   pub sameOk : length room ≡ length room₀
   pub roomOk : length text ≤ 2 * length room₀
   pub outOk : 2 * length answers + 3 * length text + 9 ≤ length out₀
   pub shownOk : Shows front len out out₀
   pub wholeIs : linesText m (linesFrom [] text) answers ≡ front ++ linesText m (linesFrom [] (drop i text)) (drop at answers)
 
-pub print-start : (text : List ℕ) (m : ℕ) (answers room out : List ℕ) → length text ≤ 2 * length room → linesRoom (linesFrom [] text) + (24 + m) ≤ length answers
+pub print-start : (text : List ℕ) (m : ℕ) (answers room out : List ℕ) → length text ≤ 2 * length room → linesRoom (linesFrom [] text) + endingRoom m ≤ length answers
     → 2 * length answers + 3 * length text + 9 ≤ length out → Printed text m answers room out room out 0 0 0
 print-start text m answers room out h k l =
     record { front = []; placeOk = omega arith; lenOk = omega arith; atOk = omega arith; sameOk = refl; roomOk = h; outOk = l; shownOk = shows-none out refl; wholeIs = refl }
@@ -38,7 +38,7 @@ out-length {out₀ = out₀} f =
 -- the answer to the line at place i stands in the answers
 pub here-fits : {text : List ℕ} {m : ℕ} {answers room₀ out₀ room out : List ℕ} {len at i : ℕ} (n : ℕ) (item : Item) → Printed text m answers room₀ out₀ room out len at i
     → i < length text → n ≡ lineLength (take (length text - i) (drop i text)) → item ≡ lineItem (take (i + n - i) (drop i text))
-    → at + (itemRoom item + linesRoom (linesFrom [] (drop (i + n + 1) text)) + (24 + m)) ≤ length answers
+    → at + (itemRoom item + linesRoom (linesFrom [] (drop (i + n + 1) text)) + endingRoom m) ≤ length answers
 unfolding linesRoom
 here-fits {text} {i = i} n item f h e q = rw (next-line text i n h e, ← q) at (f .atOk)
 
@@ -68,14 +68,14 @@ print-more {text} {m} {answers} {room₀} {out₀} {room} {out} {len} {at} {i} n
           f .wholeIs ∙ rw (next-line text i n h e, ← q, ← c, drop-drop k at answers, d) (sym (append-assoc (f .front) (itemText item (take k (drop at answers))) (linesText m lines (drop (at + k) answers))));
     }
 
--- behind the last line, the ending
-pub print-all : {text : List ℕ} {m : ℕ} {answers room₀ out₀ room out : List ℕ} {len at i : ℕ} (o : List ℕ) (p : ℕ) → Printed text m answers room₀ out₀ room out len at i
-    → length text ≤ i → Shows (endingText m (take (at + 24 + m - at) (drop at answers))) p o (take (length out - len) (drop len out))
+-- after the last line, the ending
+pub print-all : {text : List ℕ} {m : ℕ} {answers room₀ out₀ room out : List ℕ} {len at i : ℕ} (n : ℕ) (o : List ℕ) (p : ℕ) → Printed text m answers room₀ out₀ room out len at i
+    → length text ≤ i → n ≡ endingRoom m → Shows (endingText m (take (at + n - at) (drop at answers))) p o (take (length out - len) (drop len out))
     → Shows (linesText m (linesFrom [] text) answers) (len + p) (take len out ++ (o ++ drop (length out - len) (drop len out))) out₀
 unfolding linesText
-print-all {text} {m} {answers} {room₀} {out₀} {room} {out} {len} {at} {i} o p f h w =
-    let d : at + 24 + m - at ≡ 24 + m = omega arith in
-    let e : linesText m (linesFrom [] text) answers ≡ f .front ++ endingText m (take (at + 24 + m - at) (drop at answers)) =
+print-all {text} {m} {answers} {room₀} {out₀} {room} {out} {len} {at} {i} n o p f h k w =
+    let d : at + n - at ≡ endingRoom m = omega arith in
+    let e : linesText m (linesFrom [] text) answers ≡ f .front ++ endingText m (take (at + n - at) (drop at answers)) =
     f .wholeIs ∙ rw (no-line text i h, d, ending-part m (drop at answers)) in
-    let s = shown-behind (f .front) (endingText m (take (at + 24 + m - at) (drop at answers))) out₀ out o len p (omega (arith, f .lenOk, f .atOk, f .outOk, f .placeOk)) (f .shownOk) w in
+    let s = shown-behind (f .front) (endingText m (take (at + n - at) (drop at answers))) out₀ out o len p (omega (arith, f .lenOk, f .atOk, f .outOk, f .placeOk)) (f .shownOk) w in
     shows out₀ e (s .0) (s .1)

@@ -17,18 +17,17 @@ use Rattle.frames.specs.declared.FirstLine.{FirstLine}
 use Rattle.frames.specs.declared.FirstLine.the-variants.{Fresh}
 use Rattle.frames.specs.Frames.{firstLine, lineOf}
 use Rattle.carttrace_lib.specs.Trace.{linesFrom}
-use Rattle.call_list.specs.Items.{items, room}
-use Rattle.call_list.specs.ListQuestions.{endingRoom}
+use Rattle.call_list.specs.Items.{items, endingRoom, room}
 use Rattle.replay.specs.Replay.{replayQuestions, replay}
 use Rattle.replay.proofs.Whole.{out-holds}
 use Rattle.cuttrace_lib.specs.Lines.{lineLength, listOf}
-use Rattle.cuttrace_lib.specs.Printing.{linesText, linesRoom}
+use Rattle.cuttrace_lib.specs.Printing.{Shows, linesText, linesRoom}
 use Rattle.cuttrace_lib.specs.Setup.{imageOf, prelude, preludeRoom}
-use Rattle.cuttrace_lib.specs.Cuttrace.{replayText, playFrom, playLines, cuttrace}
+use Rattle.cuttrace_lib.specs.Cuttrace.{acceptedText, replayText, playFrom, playLines, cuttrace}
 use Rattle.cuttrace_lib.proofs.Texts.{first-line, none-behind}
 use Rattle.cuttrace_lib.proofs.Codes.{put-code}
 use Rattle.cuttrace_lib.proofs.Places.{list-room}
-use Rattle.cuttrace_lib.proofs.Answers.{Shows, shows, shown-behind}
+use Rattle.cuttrace_lib.proofs.Answers.{shows, shown-behind}
 
 -- the list behind what it begins with
 pub list-put : (front room₀ room : List ℕ) {p : ℕ} (o code : List ℕ) (u : ℕ) → Shows front p room room₀ → p ≤ length room → u ≤ length o → take u o ≡ code
@@ -55,7 +54,7 @@ trace-none (c ∷ text) memory scratch answers h = absurd (omega arith)
 -- the answers printed behind line 1's
 pub all-shown : (kind : SaveType) (text answers out o o' : List ℕ) (m from n k : ℕ) → m ≡ memorySize kind → from ≡ preludeRoom kind → n ≤ length out → Shows (lineOf 0 []) n o out
     → Shows (linesText m (linesFrom [] text) (take (length answers - from) (drop from answers))) k o' (take (length o - n) (drop n o))
-    → Shows (lineOf 0 [] ++ linesText (memorySize kind) (linesFrom [] text) (drop (preludeRoom kind) answers)) (n + k) (take n o ++ (o' ++ drop (length o - n) (drop n o))) out
+    → Shows (acceptedText kind (linesFrom [] text) answers) (n + k) (take n o ++ (o' ++ drop (length o - n) (drop n o))) out
 all-shown kind text answers out o o' m from n k e q h f w =
     let s = shown-behind (lineOf 0 []) (linesText m (linesFrom [] text) (take (length answers - from) (drop from answers))) out o o' n k h f w in
     let d : drop (preludeRoom kind) answers ≡ take (length answers - from) (drop from answers) = ap (λ (x : ℕ). drop x answers) (sym q) ∙ sym (rest from answers) in
@@ -84,11 +83,11 @@ module _ (kind : SaveType) (lines : List (List ℕ)) (memory scratch answers : L
     unfolding playFrom replayText said
     text-refused h = (λ j. replayText kind lines (sym replay-said j)) ∙ rw (ne-eqb r 0 h)
 
-    pub text-accepted : r ≡ 0 → playFrom (Fresh kind) lines memory scratch answers ≡ lineOf 0 [] ++ linesText (memorySize kind) lines (drop (preludeRoom kind) a')
+    pub text-accepted : r ≡ 0 → playFrom (Fresh kind) lines memory scratch answers ≡ acceptedText kind lines a'
     unfolding playFrom replayText said
     text-accepted h = (λ j. replayText kind lines (sym replay-said j)) ∙ rw (eq-eqb r 0 h)
 
-    pub answers-held : r ≡ 0 → length a' ≡ length answers → memorySize kind ≤ length memory → preludeRoom kind + (linesRoom lines + (24 + memorySize kind)) ≤ length a'
+    pub answers-held : r ≡ 0 → length a' ≡ length answers → memorySize kind ≤ length memory → preludeRoom kind + (linesRoom lines + endingRoom (memorySize kind)) ≤ length a'
     unfolding said
     answers-held h q z =
         let held = holds-answers (imageOf kind) (prelude kind ++ listOf lines) (take (memorySize kind) memory) (take (memorySize kind) scratch) answers ((λ j. sym replay-said j .0) ∙ h) in

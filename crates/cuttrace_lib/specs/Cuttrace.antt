@@ -1,4 +1,4 @@
--- What the program `cuttrace` prints: a line for each line but a cut's, and behind them the file and the 18 bytes.
+-- What the program `cuttrace` prints: a line for each line but a cut's, then the file and the chip state.
 use mathlib.Core.Bool.{cond}
 use mathlib.Core.List.{List, [], _∷_, _++_}
 use Prim.Native.Nat.{ℕ, _%_}
@@ -15,17 +15,21 @@ use Rattle.cuttrace_lib.specs.Lines.{listOf}
 use Rattle.cuttrace_lib.specs.Printing.{linesText}
 use Rattle.cuttrace_lib.specs.Setup.{imageOf, prelude, preludeRoom}
 
--- what a replay answered, printed: its refusal alone, or `00` for line 1 and then an answer for each other line
-unfoldable pub replayText : SaveType → List (List ℕ) → ℕ × List ℕ × List ℕ × List ℕ → List ℕ
-replayText kind lines r =
-    cond (eqb (r .0) 0) (lineOf 0 [] ++ linesText (memorySize kind) lines (drop (preludeRoom kind) (r .3))) (lineOf (r .0 % 256) [])
+-- `00` for line 1, then an answer for each other line
+abbrev pub acceptedText : SaveType → List (List ℕ) → List ℕ → List ℕ
+acceptedText kind lines answers = lineOf 0 [] ++ linesText (memorySize kind) lines (drop (preludeRoom kind) answers)
 
--- the lines behind line 1, with a memory, a scratch and room for the answers
+-- what a replay answered, printed: its refusal alone, or that
+unfoldable pub replayText : SaveType → List (List ℕ) → ℕ × List ℕ × List ℕ × List ℕ → List ℕ
+replayText kind lines r = cond (eqb (r .0) 0) (acceptedText kind lines (r .3)) (lineOf (r .0 % 256) [])
+
+-- the lines after line 1, with a memory, a scratch and room for the answers
 unfoldable pub playFrom : FirstLine → List (List ℕ) → List ℕ → List ℕ → List ℕ → List ℕ
 playFrom NoKind lines memory scratch answers = lineOf 0xff []
 playFrom (Fresh kind) lines memory scratch answers =
     let n = memorySize kind in
-    replayText kind lines (replay (imageOf kind) (prelude kind ++ listOf lines) (take n memory) (take n scratch) answers)
+    replayText kind lines
+    (replay (imageOf kind) (prelude kind ++ listOf lines) (take n memory) (take n scratch) answers)
 
 unfoldable pub playLines : List (List ℕ) → List ℕ → List ℕ → List ℕ → List ℕ
 playLines [] memory scratch answers = []

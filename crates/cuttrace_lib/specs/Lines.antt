@@ -1,4 +1,4 @@
--- The lines of a trace as a list of calls. A line is upper-case hexadecimal digits that are exactly one item of an encoded list.
+-- The lines of a trace as a list of calls. A line is the upper-case hexadecimal digits of exactly one item.
 use mathlib.Core.Bool.{cond, _&&_}
 use mathlib.Core.List.{List, [], _∷_, _++_}
 use mathlib.Core.Option.{Option, none, some}
@@ -30,8 +30,8 @@ unfoldable pub wholeItem : Option (List ℕ) → Item
 wholeItem none = Bad
 wholeItem (some bytes) = let i = itemIn bytes in cond (eqb (itemLength i) (length bytes)) i Bad
 
--- the item that a line is, `Bad` where it is none, and its bytes in the list: "a bad line (any that is not exactly one of these frames), an empty one
--- included" has none
+-- the item of a line, `Bad` if it is none, and its bytes in the list; "a bad line (any that is not exactly one of these
+-- frames), an empty one included" has none
 unfoldable pub lineItem : List ℕ → Item
 lineItem line = wholeItem (unhex line)
 
@@ -49,7 +49,7 @@ unfoldable pub listOf : List (List ℕ) → List ℕ
 listOf [] = []
 listOf (line ∷ lines) = lineCode line ++ listOf lines
 
--- how many characters stand before a text's first line feed, or its end
+-- how many characters are before a text's first line feed, or its end
 unfoldable pub lineLength : List ℕ → ℕ
 lineLength [] = 0
 lineLength (c ∷ text) = cond (eqb c 0x0a) 0 (suc (lineLength text))

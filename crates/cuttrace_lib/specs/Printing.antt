@@ -1,13 +1,20 @@
 -- Answers as lines: a status and its answer each, FF for a bad line, nothing for a cut.
+use mathlib.Core.Path.{_≡_}
 use mathlib.Core.Bool.{cond}
 use mathlib.Core.List.{List, [], _∷_, _++_}
 use Prim.Native.Nat.{ℕ, _+_}
 use lib.Dec.{eqb}
-use lib.ListN.{getD, take, drop}
+use lib.ListN.{length, getD, take, drop}
+use Rattle.lists.specs.Lists.{into}
+use Rattle.cart.specs.ChipState.{stateSize}
 use Rattle.frames.specs.Frames.{lineOf}
 use Rattle.call_list.specs.declared.Item.{Item}
 use Rattle.call_list.specs.Items.{high32, itemRoom, isItem}
 use Rattle.cuttrace_lib.specs.Lines.{lineItem}
+
+-- a text at the front of the output, and its length
+abbrev pub Shows : List ℕ → ℕ → List ℕ → List ℕ → Type 0
+Shows text n after before = (n ≡ length text) × (after ≡ into text before)
 
 -- "00 and the answer .., or the refusal number"; a cut, which answers no byte, prints no line
 unfoldable pub answerText : List ℕ → List ℕ
@@ -17,22 +24,22 @@ answerText (status ∷ bytes) = lineOf status (cond (eqb status 0) bytes [])
 unfoldable pub itemText : Item → List ℕ → List ℕ
 itemText i answer = cond (isItem i) (answerText answer) (lineOf 0xff [])
 
--- a file behind its status and its length: as many bytes as the length says
+-- a file after its status and its length: as many bytes as the length says
 unfoldable pub fileText : List ℕ → List ℕ
 fileText a = lineOf (getD a 0 0) (cond (eqb (getD a 0 0) 0) (take (high32 a) (drop 5 a)) [])
 
--- the file and the 18 bytes, for a memory of m bytes
+-- the file and the chip state, for a memory of m bytes
 unfoldable pub endingText : ℕ → List ℕ → List ℕ
-endingText m a = fileText (take (5 + m) a) ++ answerText (take 19 (drop (5 + m) a))
+endingText m a = fileText (take (5 + m) a) ++ answerText (take (1 + stateSize) (drop (5 + m) a))
 
--- the answers to the lines stand one behind the other, and behind them the ending
+-- the answers to the lines, one after the other, and then the ending
 unfoldable pub linesText : ℕ → List (List ℕ) → List ℕ → List ℕ
 linesText m [] a = endingText m a
 linesText m (line ∷ lines) a =
     let n = itemRoom (lineItem line) in
     itemText (lineItem line) (take n a) ++ linesText m lines (drop n a)
 
--- what they take
+-- how many bytes they take
 unfoldable pub linesRoom : List (List ℕ) → ℕ
 linesRoom [] = 0
 linesRoom (line ∷ lines) = itemRoom (lineItem line) + linesRoom lines

@@ -7,7 +7,7 @@ ghost use Prim.Native.Nat.{_*_, _/_, _≤_};
 ghost use lib.ListN.{length, take};
 ghost use Rattle.cuttrace_lib.specs.Lines.{byteOf, unhex};
 
-// The byte of two digits, and 256 where one of the characters is none.
+// The byte of two digits; 256 if one of the characters is not a digit.
 fn byte_of(a: u8, b: u8) -> u16
     ensures { λ r. ⌜ r ≡ byteOf a b ⌝ }
 {
@@ -25,7 +25,8 @@ fn byte_of(a: u8, b: u8) -> u16
 // Whether a line is digits, two for each byte; its bytes are then at the front of the room.
 pub fn put_bytes(line: &[u8], room: &mut [u8]) -> bool
     requires { ⌜ length (now line) ≤ 2 * length (now room) ⌝ }
-    ensures { λ r. ⌜ unhex (now (line .entry)) ≡ cond r (some (take (length (now (line .entry)) / 2) (now (room .exit)))) none ⌝ }
+    ensures { λ r. ⌜ unhex (now (line .entry))
+        ≡ cond r (some (take (length (now (line .entry)) / 2) (now (room .exit)))) none ⌝ }
 {
     if line.len() % 2 != 0 {
         return false;

@@ -1,5 +1,4 @@
-// A trace in lines of digits, with loads, exports and cuts between its calls: the lines as a list of calls, the list replayed, and what
-// is answered as lines.
+// cuttrace as a library: the lines of a trace as a list of calls and cuts, the list replayed, its answers as lines.
 
 mod digits;
 mod lines;

@@ -10,7 +10,7 @@ ghost use lib.ListN.{length, take};
 ghost use Rattle.carttrace_lib.specs.Trace.{linesFrom};
 ghost use Rattle.cuttrace_lib.specs.Lines.{lineLength, lineItem, lineCode, codeLength, listOf};
 
-// How many characters stand before the line feed, or the text's end.
+// How many characters are before the line feed, or the text's end.
 pub fn line_length(text: &[u8]) -> usize
     ensures { λ r. ⌜ (r ≡ lineLength (now (text .entry))) × (r ≤ length (now (text .entry))) ⌝ }
 {
@@ -24,7 +24,7 @@ pub fn line_length(text: &[u8]) -> usize
     i
 }
 
-// The item that a line is; its bytes are then at the front of the room.
+// The item of a line; its bytes are then at the front of the room.
 pub fn read_line(line: &[u8], room: &mut [u8]) -> Item
     requires { ⌜ length (now line) ≤ 2 * length (now room) ⌝ }
     ensures { λ r. ⌜ r ≡ lineItem (now (line .entry)) ⌝ }
@@ -45,7 +45,7 @@ pub fn read_line(line: &[u8], room: &mut [u8]) -> Item
     item
 }
 
-// How many bytes of the list an item is: a bad line is none.
+// How many bytes of the list an item takes: none for a bad line.
 fn code_length(item: Item) -> usize
     requires { ⌜ codeLength item ≤ 18446744073709551615 ⌝ }
     ensures { λ r. ⌜ r ≡ codeLength item ⌝ }
@@ -56,7 +56,7 @@ fn code_length(item: Item) -> usize
     item_length(item)
 }
 
-// The list goes to the front of the room; the answer is how long it is.
+// Writes the list to the front of the room and returns its length.
 pub fn collect(text: &[u8], room: &mut [u8]) -> usize
     requires { ⌜ length (now text) ≤ 131072 ⌝ }
     requires { ⌜ length (now text) ≤ 2 * length (now room) ⌝ }

@@ -1,7 +1,8 @@
-// Answers as lines.
+// Answers, printed as lines.
 use crate::lines::line_length;
 use crate::lines::read_line;
 use call_list::Item;
+use call_list::ending_room;
 use call_list::item_room;
 use frames::print_line;
 use lists::low32;
@@ -9,14 +10,15 @@ ghost use mathlib.Core.Path.{_≡_};
 ghost use mathlib.Core.List.{[]};
 ghost use Prim.Native.Nat.{_+_, _*_, _≤_, min};
 ghost use lib.ListN.{length};
-ghost use Rattle.lists.specs.Lists.{into};
 ghost use Rattle.carttrace_lib.specs.Trace.{linesFrom};
-ghost use Rattle.cuttrace_lib.specs.Printing.{answerText, itemText, fileText, endingText, linesText, linesRoom};
+ghost use Rattle.call_list.specs.Items.{endingRoom};
+ghost use Rattle.cuttrace_lib.specs.Printing.{Shows, answerText, itemText, fileText, endingText};
+ghost use Rattle.cuttrace_lib.specs.Printing.{linesText, linesRoom};
 
-// A status alone where it is a refusal, else with the bytes behind it.
+// A refusal's number alone, or 00 and the bytes after the status.
 fn print_answer(answer: &[u8], out: &mut [u8]) -> usize
     requires { ⌜ 2 * length (now answer) + 3 ≤ length (now out) ⌝ }
-    ensures { λ r. ⌜ (r ≡ length (answerText (now (answer .entry)))) × (now (out .exit) ≡ into (answerText (now (answer .entry))) (now (out .entry))) ⌝ }
+    ensures { λ r. ⌜ Shows (answerText (now (answer .entry))) r (now (out .exit)) (now (out .entry)) ⌝ }
 {
     if answer.len() == 0 {
         return 0;
@@ -27,10 +29,10 @@ fn print_answer(answer: &[u8], out: &mut [u8]) -> usize
     print_line(out, 0, &answer[1..])
 }
 
-// A bad line answers FF, a cut nothing.
+// FF for a bad line, nothing for a cut.
 fn print_item(item: Item, answer: &[u8], out: &mut [u8]) -> usize
     requires { ⌜ 2 * length (now answer) + 3 ≤ length (now out) ⌝ }
-    ensures { λ r. ⌜ (r ≡ length (itemText item (now (answer .entry)))) × (now (out .exit) ≡ into (itemText item (now (answer .entry))) (now (out .entry))) ⌝ }
+    ensures { λ r. ⌜ Shows (itemText item (now (answer .entry))) r (now (out .exit)) (now (out .entry)) ⌝ }
 {
     if let Item::Bad = item {
         return print_line(out, 0xFF, b"");
@@ -47,11 +49,11 @@ fn least(a: usize, b: usize) -> usize
     b
 }
 
-// The file that stands behind a status and its length.
+// The file after a status and its length.
 fn print_file(answer: &[u8], out: &mut [u8]) -> usize
     requires { ⌜ 5 ≤ length (now answer) ⌝ }
     requires { ⌜ 2 * length (now answer) + 3 ≤ length (now out) ⌝ }
-    ensures { λ r. ⌜ (r ≡ length (fileText (now (answer .entry)))) × (now (out .exit) ≡ into (fileText (now (answer .entry))) (now (out .entry))) ⌝ }
+    ensures { λ r. ⌜ Shows (fileText (now (answer .entry))) r (now (out .exit)) (now (out .entry)) ⌝ }
 {
     if answer[0] != 0 {
         return print_line(out, answer[0], b"");
@@ -61,19 +63,18 @@ fn print_file(answer: &[u8], out: &mut [u8]) -> usize
     print_line(out, 0, &answer[5..end])
 }
 
-// What stands behind the last item's answer: the file, and the 18 bytes.
+// After the last item's answer: the file and the chip state.
 fn print_ending(memory: usize, ending: &[u8], out: &mut [u8]) -> usize
-    requires { ⌜ length (now ending) ≡ 24 + memory ⌝ }
+    requires { ⌜ length (now ending) ≡ endingRoom memory ⌝ }
     requires { ⌜ 2 * length (now ending) + 6 ≤ length (now out) ⌝ }
-    ensures { λ r. ⌜ (r ≡ length (endingText memory (now (ending .entry)))) × (now (out .exit) ≡ into (endingText memory (now (ending .entry))) (now (out .entry))) ⌝ }
+    ensures { λ r. ⌜ Shows (endingText memory (now (ending .entry))) r (now (out .exit)) (now (out .entry)) ⌝ }
 {
     let middle = 5 + memory;
     let n = print_file(&ending[..middle], out);
     n + print_answer(&ending[middle..], &mut out[n..])
 }
 
-// The answers to the lines of a text, one behind the other, and what comes behind them for a memory of so many bytes. The room is used
-// for a line's bytes.
+// The answers to the lines of a text, and the ending for a memory of so many bytes. The room holds a line's bytes.
 pub fn print_lines(
     text: &[u8],
     memory: usize,
@@ -84,9 +85,10 @@ pub fn print_lines(
     requires { ⌜ length (now text) ≤ 131072 ⌝ }
     requires { ⌜ memory ≤ 131072 ⌝ }
     requires { ⌜ length (now text) ≤ 2 * length (now room) ⌝ }
-    requires { ⌜ linesRoom (linesFrom [] (now text)) + (24 + memory) ≤ length (now answers) ⌝ }
+    requires { ⌜ linesRoom (linesFrom [] (now text)) + endingRoom memory ≤ length (now answers) ⌝ }
     requires { ⌜ 2 * length (now answers) + 3 * length (now text) + 9 ≤ length (now out) ⌝ }
-    ensures { λ r. ⌜ (r ≡ length (linesText memory (linesFrom [] (now (text .entry))) (now (answers .entry)))) × (now (out .exit) ≡ into (linesText memory (linesFrom [] (now (text .entry))) (now (answers .entry))) (now (out .entry))) ⌝ }
+    ensures { λ r. ⌜ Shows (linesText memory (linesFrom [] (now (text .entry))) (now (answers .entry)))
+        r (now (out .exit)) (now (out .entry)) ⌝ }
 {
     let mut len = 0;
     let mut at = 0;
@@ -99,6 +101,6 @@ pub fn print_lines(
         at = next;
         i = end + 1;
     }
-    let end = at + 24 + memory;
+    let end = at + ending_room(memory);
     len + print_ending(memory, &answers[at..end], &mut out[len..])
 }

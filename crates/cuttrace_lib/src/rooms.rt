@@ -1,4 +1,4 @@
-// Room for a trace, and what `run_trace` works in. The `ensures` gives only the length, which lending an array as a slice needs.
+// Buffers for `run_trace`. Each `ensures` gives the length, which is needed to pass an array as a slice.
 ghost use mathlib.Core.Path.{_≡_};
 ghost use lib.ListN.{length};
 

@@ -11,6 +11,7 @@ ghost use Prim.Native.Nat.{_≤_};
 ghost use lib.ListN.{length};
 ghost use Rattle.lists.specs.Lists.{into};
 ghost use Rattle.frames.specs.Frames.{firstLine};
+ghost use Rattle.cuttrace_lib.specs.Printing.{Shows};
 ghost use Rattle.cuttrace_lib.specs.Setup.{imageOf, prelude, preludeRoom};
 
 pub fn first_kind(line: &[u8]) -> FirstLine
@@ -25,8 +26,8 @@ pub fn first_kind(line: &[u8]) -> FirstLine
     first_in(l)
 }
 
-// An image of that kind, its marker in front. An image of Eeprom8k would be longer than 16 MiB: that kind is played as an Eeprom512 that a load
-// has made large.
+// An image of that kind, its marker in front. An image of Eeprom8k would be longer than 16 MiB, so that kind is played
+// as an Eeprom512 that a load has made large.
 pub fn put_image(kind: SaveType, image: &mut [u8])
     requires { ⌜ length (now image) ≡ 192 ⌝ }
     ensures { λ _. ⌜ now (image .exit) ≡ imageOf kind ⌝ }
@@ -50,10 +51,10 @@ fn put_load(list: &mut [u8])
     copy(list, &[8, 0, 0, 0x20, 0]);
 }
 
-// What the list begins with, before any line: for Eeprom8k a load of 8,192 erased bytes. The answer is how long it is.
+// Starts the list, before any line: for Eeprom8k with a load of 8,192 erased bytes. Returns its length.
 pub fn put_prelude(kind: SaveType, list: &mut [u8]) -> usize
     requires { ⌜ 8197 ≤ length (now list) ⌝ }
-    ensures { λ r. ⌜ (r ≡ length (prelude kind)) × (now (list .exit) ≡ into (prelude kind) (now (list .entry))) ⌝ }
+    ensures { λ r. ⌜ Shows (prelude kind) r (now (list .exit)) (now (list .entry)) ⌝ }
 {
     match kind {
         SaveType::None => 0,
@@ -68,7 +69,7 @@ pub fn put_prelude(kind: SaveType, list: &mut [u8]) -> usize
     }
 }
 
-// How many bytes that answers.
+// How many bytes the prelude answers.
 pub fn prelude_room(kind: SaveType) -> usize
     ensures { λ r. ⌜ r ≡ preludeRoom kind ⌝ }
 {

@@ -15,17 +15,16 @@ ghost use mathlib.Core.Path.{_≡_};
 ghost use mathlib.Core.List.{[], _++_};
 ghost use Prim.Native.Nat.{_+_, _*_, _≤_};
 ghost use lib.ListN.{length, take, drop};
-ghost use Rattle.lists.specs.Lists.{into};
 ghost use Rattle.kind.specs.Kind.{memorySize};
-ghost use Rattle.frames.specs.Frames.{lineOf};
 ghost use Rattle.frames.specs.declared.FirstLine.the-variants.{Fresh};
 ghost use Rattle.carttrace_lib.specs.Trace.{linesFrom};
 ghost use Rattle.cuttrace_lib.specs.Lines.{listOf};
-ghost use Rattle.cuttrace_lib.specs.Printing.{linesText, linesRoom};
+ghost use Rattle.call_list.specs.Items.{endingRoom};
+ghost use Rattle.cuttrace_lib.specs.Printing.{Shows, linesRoom};
 ghost use Rattle.cuttrace_lib.specs.Setup.{prelude, preludeRoom};
-ghost use Rattle.cuttrace_lib.specs.Cuttrace.{playFrom, cuttrace};
+ghost use Rattle.cuttrace_lib.specs.Cuttrace.{acceptedText, playFrom, cuttrace};
 
-// The list goes to the front of the room; the answer is how long it is.
+// Writes the list to the front of the room and returns its length.
 fn put_list(kind: SaveType, text: &[u8], room: &mut [u8]) -> usize
     requires { ⌜ length (now text) ≤ 131072 ⌝ }
     requires { ⌜ 16394 + length (now text) ≤ 2 * length (now room) ⌝ }
@@ -36,13 +35,15 @@ fn put_list(kind: SaveType, text: &[u8], room: &mut [u8]) -> usize
     begun + collect(text, &mut room[begun..])
 }
 
-// What is printed where the replay is not refused.
+// Prints the answers of an accepted replay.
 fn print_all(kind: SaveType, text: &[u8], room: &mut [u8], answers: &[u8], out: &mut [u8]) -> usize
     requires { ⌜ length (now text) ≤ 131072 ⌝ }
     requires { ⌜ length (now text) ≤ 2 * length (now room) ⌝ }
-    requires { ⌜ preludeRoom kind + (linesRoom (linesFrom [] (now text)) + (24 + memorySize kind)) ≤ length (now answers) ⌝ }
+    requires { ⌜ preludeRoom kind + (linesRoom (linesFrom [] (now text)) + endingRoom (memorySize kind))
+        ≤ length (now answers) ⌝ }
     requires { ⌜ 2 * length (now answers) + 3 * length (now text) + 12 ≤ length (now out) ⌝ }
-    ensures { λ r. ⌜ (r ≡ length (lineOf 0 [] ++ linesText (memorySize kind) (linesFrom [] (now (text .entry))) (drop (preludeRoom kind) (now (answers .entry))))) × (now (out .exit) ≡ into (lineOf 0 [] ++ linesText (memorySize kind) (linesFrom [] (now (text .entry))) (drop (preludeRoom kind) (now (answers .entry)))) (now (out .entry))) ⌝ }
+    ensures { λ r. ⌜ Shows (acceptedText kind (linesFrom [] (now (text .entry))) (now (answers .entry)))
+        r (now (out .exit)) (now (out .entry)) ⌝ }
 {
     let from = prelude_room(kind);
     let n = print_line(out, 0, b"");
@@ -56,7 +57,7 @@ fn print_all(kind: SaveType, text: &[u8], room: &mut [u8], answers: &[u8], out: 
         )
 }
 
-// The lines behind line 1.
+// Plays the lines after line 1.
 fn play_lines(
     kind: SaveType,
     text: &[u8],
@@ -71,7 +72,9 @@ fn play_lines(
     requires { ⌜ 131072 ≤ length (now memory) ⌝ }
     requires { ⌜ 131072 ≤ length (now scratch) ⌝ }
     requires { ⌜ 2 * length (now answers) + 3 * length (now text) + 12 ≤ length (now out) ⌝ }
-    ensures { λ r. ⌜ (r ≡ length (playFrom (Fresh kind) (linesFrom [] (now (text .entry))) (now (memory .entry)) (now (scratch .entry)) (now (answers .entry)))) × (now (out .exit) ≡ into (playFrom (Fresh kind) (linesFrom [] (now (text .entry))) (now (memory .entry)) (now (scratch .entry)) (now (answers .entry))) (now (out .entry))) ⌝ }
+    ensures { λ r. ⌜ Shows (playFrom (Fresh kind) (linesFrom [] (now (text .entry)))
+        (now (memory .entry)) (now (scratch .entry)) (now (answers .entry)))
+        r (now (out .exit)) (now (out .entry)) ⌝ }
 {
     let mut image = [0u8; 192];
     put_image(kind, &mut image);
@@ -90,10 +93,11 @@ fn play_lines(
     print_all(kind, text, list, answers, out)
 }
 
-// Where the lines behind line 1 begin.
-fn behind(end: usize, text: &[u8]) -> usize
+// Where the lines after line 1 begin.
+fn after_line(end: usize, text: &[u8]) -> usize
     requires { ⌜ end ≤ length (now text) ⌝ }
-    ensures { λ r. ⌜ (r ≤ length (now (text .entry))) × (drop r (now (text .entry)) ≡ drop (end + 1) (now (text .entry))) ⌝ }
+    ensures { λ r. ⌜ (r ≤ length (now (text .entry)))
+        × (drop r (now (text .entry)) ≡ drop (end + 1) (now (text .entry))) ⌝ }
 {
     if end < text.len() {
         return end + 1;
@@ -101,7 +105,7 @@ fn behind(end: usize, text: &[u8]) -> usize
     end
 }
 
-// What a trace prints goes to the front of the output; the answer is how long it is.
+// Writes what a trace prints to the front of the output and returns its length.
 pub fn run_trace(
     text: &[u8],
     list: &mut [u8],
@@ -115,14 +119,16 @@ pub fn run_trace(
     requires { ⌜ 131072 ≤ length (now memory) ⌝ }
     requires { ⌜ 131072 ≤ length (now scratch) ⌝ }
     requires { ⌜ 2 * length (now answers) + 3 * length (now text) + 12 ≤ length (now out) ⌝ }
-    ensures { λ r. ⌜ (r ≡ length (cuttrace (now (text .entry)) (now (memory .entry)) (now (scratch .entry)) (now (answers .entry)))) × (now (out .exit) ≡ into (cuttrace (now (text .entry)) (now (memory .entry)) (now (scratch .entry)) (now (answers .entry))) (now (out .entry))) ⌝ }
+    ensures { λ r. ⌜ Shows
+        (cuttrace (now (text .entry)) (now (memory .entry)) (now (scratch .entry)) (now (answers .entry)))
+        r (now (out .exit)) (now (out .entry)) ⌝ }
     ensures { λ r. ⌜ r ≤ length (now (out .entry)) ⌝ }
 {
     if text.len() == 0 {
         return 0;
     }
     let end = line_length(text);
-    let from = behind(end, text);
+    let from = after_line(end, text);
     match first_kind(&text[..end]) {
         FirstLine::Fresh(kind) => play_lines(
             kind,

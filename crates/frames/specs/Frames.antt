@@ -8,7 +8,8 @@ use lib.ListN.{length}
 use Rattle.hex.specs.Hex.{valueOf, hex}
 use Rattle.kind.specs.declared.SaveType.the-variants.{None, Sram, Flash64, Eeprom512, Eeprom8k}
 use Rattle.frames.specs.declared.Frame.{Frame}
-use Rattle.frames.specs.declared.Frame.the-variants.{SaveRead, SaveWrite, EepromRead, EepromWrite, BeginDma, TakeFlag, ChipState, Bad}
+use Rattle.frames.specs.declared.Frame.the-variants.{SaveRead, SaveWrite, EepromRead, EepromWrite}
+use Rattle.frames.specs.declared.Frame.the-variants.{BeginDma, TakeFlag, ChipState, Bad}
 use Rattle.frames.specs.declared.FirstLine.{FirstLine}
 use Rattle.frames.specs.declared.FirstLine.the-variants.{Fresh, NoKind}
 use Rattle.frames.specs.declared.Line.{Line}
@@ -30,18 +31,22 @@ abbrev pub twoDigits : ℕ → Frame
 twoDigits x = cond (eqb x 3) EepromRead (cond (eqb x 6) TakeFlag (cond (eqb x 7) ChipState Bad))
 
 abbrev pub sixDigits : ℕ → Frame
-sixDigits x = cond (eqb (x / 2 ^ 16) 4) (EepromWrite (x % 2 ^ 16)) (cond (eqb (x / 2 ^ 16) 5) (BeginDma (x % 2 ^ 16)) Bad)
+sixDigits x =
+    cond (eqb (x / 2 ^ 16) 4) (EepromWrite (x % 2 ^ 16))
+    (cond (eqb (x / 2 ^ 16) 5) (BeginDma (x % 2 ^ 16)) Bad)
 
 -- "one frame a line": by how many digits there are, and their number
 unfoldable pub frameOf : ℕ → ℕ → Frame
 frameOf n x =
-    cond (eqb n 10) (tenDigits x) (cond (eqb n 12) (twelveDigits x) (cond (eqb n 2) (twoDigits x) (cond (eqb n 6) (sixDigits x) Bad)))
+    cond (eqb n 10) (tenDigits x)
+    (cond (eqb n 12) (twelveDigits x) (cond (eqb n 2) (twoDigits x) (cond (eqb n 6) (sixDigits x) Bad)))
 
 -- "Line 1 is a fresh kind with image length 192: 00 None, 01 Sram, 02 Flash64, 04 Eeprom512, 05 Eeprom8k"
 unfoldable pub freshOf : ℕ → FirstLine
 freshOf x =
     cond (eqb x 0) (Fresh None)
-    (cond (eqb x 1) (Fresh Sram) (cond (eqb x 2) (Fresh Flash64) (cond (eqb x 4) (Fresh Eeprom512) (cond (eqb x 5) (Fresh Eeprom8k) NoKind))))
+    (cond (eqb x 1) (Fresh Sram)
+    (cond (eqb x 2) (Fresh Flash64) (cond (eqb x 4) (Fresh Eeprom512) (cond (eqb x 5) (Fresh Eeprom8k) NoKind))))
 
 abbrev pub firstOf : ℕ → ℕ → FirstLine
 firstOf n x = cond (eqb n 2) (freshOf x) NoKind
@@ -58,7 +63,7 @@ frame line = numbered frameOf Bad (length line) (numberFrom 0 line)
 unfoldable pub firstLine : List ℕ → FirstLine
 firstLine line = numbered firstOf NoKind (length line) (numberFrom 0 line)
 
--- a line as it comes in, character by character: how many digits it has and their number, as long as it may be a frame
+-- a line read so far: the count of its digits and their number, while it can still be a frame
 abbrev pub lineWith : Bool → ℕ → ℕ → Line
 lineWith good count value = record { good = good; count = count; value = value }
 
@@ -68,7 +73,9 @@ emptyLine = lineWith true 0 0
 unfoldable pub pushed : Line → ℕ → Line
 pushed l c =
     cond (l .good)
-    (cond (ltb (l .count) 12 && ltb (valueOf c) 16) (lineWith true (l .count + 1) (l .value * 16 % 2 ^ 64 + valueOf c)) (lineWith false (l .count) (l .value)))
+    (cond (ltb (l .count) 12 && ltb (valueOf c) 16)
+    (lineWith true (l .count + 1) (l .value * 16 % 2 ^ 64 + valueOf c))
+    (lineWith false (l .count) (l .value)))
     l
 
 unfoldable pub pushedAll : Line → List ℕ → Line

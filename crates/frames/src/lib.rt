@@ -1,4 +1,4 @@
-// The lines of carttrace: what a line in says, and a line out.
+// The lines of carttrace: a line read, and a line printed.
 
 mod print;
 
@@ -6,7 +6,8 @@ use hex::value_of;
 use kind::SaveType;
 pub use print::print_line;
 ghost use mathlib.Core.Path.{_≡_};
-ghost use Rattle.frames.specs.Frames.{tenDigits, twelveDigits, twoDigits, sixDigits, frameOf, freshOf, firstOf, lineWith, emptyLine, pushed, frameIn, firstIn};
+ghost use Rattle.frames.specs.Frames.{tenDigits, twelveDigits, twoDigits, sixDigits, frameOf, freshOf, firstOf};
+ghost use Rattle.frames.specs.Frames.{lineWith, emptyLine, pushed, frameIn, firstIn};
 
 pub enum Frame {
     // address
@@ -27,7 +28,7 @@ pub enum FirstLine {
     NoKind,
 }
 
-// A line as it comes in, of any length: how many digits it has and their number, as long as it may be a frame.
+// A line of any length, read so far: the count of its digits and their number, while it can still be a frame.
 pub struct Line {
     pub good: bool,
     pub count: u8,

@@ -1,4 +1,4 @@
-// Lines out.
+// Lines printed.
 
 use hex::character;
 ghost use mathlib.Core.Path.{_≡_};
@@ -12,13 +12,14 @@ ghost use Rattle.frames.specs.Frames.{lineOf};
 fn put_digits(out: &mut [u8], at: usize, b: u8)
     requires { ⌜ at + 2 ≤ length (now out) ⌝ }
     ensures { λ _. ⌜ length (now (out .exit)) ≡ length (now (out .entry)) ⌝ }
-    ensures { λ _. ⌜ now (out .exit) ≡ set (set (now (out .entry)) at (character·spec (b / 16 % 16))) (at + 1) (character·spec (b % 16)) ⌝ }
+    ensures { λ _. ⌜ now (out .exit)
+        ≡ set (set (now (out .entry)) at (character·spec (b / 16 % 16))) (at + 1) (character·spec (b % 16)) ⌝ }
 {
     out[at] = character(b / 16 % 16);
     out[at + 1] = character(b % 16);
 }
 
-// A status and the bytes of an answer, as digits and a line feed at the front of the output; the answer is how long that is.
+// Writes a status, an answer's bytes and a line feed to the front of the output. Returns the length of the line.
 pub fn print_line(out: &mut [u8], status: u8, bytes: &[u8]) -> usize
     requires { ⌜ 2 * length (now bytes) + 3 ≤ length (now out) ⌝ }
     ensures { λ r. ⌜ r ≡ length (lineOf status (now (bytes .entry))) ⌝ }

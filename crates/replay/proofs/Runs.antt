@@ -15,8 +15,7 @@ use Rattle.cart.specs.Replies.{state}
 use Rattle.cart.proofs.Recoverable.{Recoverable}
 use Rattle.cart.proofs.CutRuns.{quiet}
 use Rattle.call_list.specs.declared.Item.{Item}
-use Rattle.call_list.specs.Items.{Place, itemIn, itemLength, itemRoom, items, isWrite, byteWrites, room}
-use Rattle.call_list.specs.ListQuestions.{endingRoom}
+use Rattle.call_list.specs.Items.{Place, itemIn, itemLength, itemRoom, endingRoom, items, isWrite, byteWrites, room}
 use Rattle.call_list.proofs.Places.{next-item, item-fits}
 use Rattle.replay.specs.Replay.{Answered, answered, play, playAll, ending, notCut, cutAt, shownBy, uncutRun, left}
 use Rattle.replay.proofs.Same.{plays-same, ends-same}

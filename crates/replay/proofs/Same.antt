@@ -10,7 +10,7 @@ use Rattle.lists.specs.Questions.{asked}
 use Rattle.image.specs.Image.{imageLength}
 use Rattle.kind.specs.declared.SaveType.{SaveType}
 use Rattle.kind.specs.Kind.{memorySize, usesEeprom, detectSaveType}
-use Rattle.cart.specs.Record.{State, Outcome, openQuestions, fromBytes, outcome, fresh}
+use Rattle.cart.specs.Record.{State, Outcome, openQuestions, fromBytes, fresh}
 use Rattle.cart.specs.Calls.{Call, saveRead, saveWrite, eepromBeginDma, eepromWrite, eepromRead, loadSave, saveData, chipState, takeSaveDirty, step}
 use Rattle.cart.specs.Cut.{cut}
 use Rattle.cart.proofs.Recoverable.{Recoverable, NoByteWrite, recoverable-step, recoverable-fresh}

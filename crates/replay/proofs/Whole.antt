@@ -14,8 +14,7 @@ use Rattle.cart.specs.declared.Reply.{Reply}
 use Rattle.cart.specs.Record.{State, Outcome, openQuestions, fromBytes, fresh}
 use Rattle.cart.specs.Replies.{state, replied}
 use Rattle.cart.proofs.Sound.{opened}
-use Rattle.call_list.specs.Items.{items, byteWrites, room}
-use Rattle.call_list.specs.ListQuestions.{endingRoom}
+use Rattle.call_list.specs.Items.{endingRoom, items, byteWrites, room}
 use Rattle.replay.specs.Replay.{uncutRun, shownBy, replayQuestions, replay}
 
 module _ (image bytes memory scratch out : List ℕ) (n : ℕ) (e : n ≡ asked (replayQuestions image bytes memory (length scratch) (length out))) where

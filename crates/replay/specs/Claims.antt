@@ -6,16 +6,18 @@ use Prim.Native.Nat.{ℕ, suc, _%_}
 use lib.ListN.{length, take, drop, replicate}
 use Rattle.lists.specs.Lists.{into}
 use Rattle.cart.specs.Record.{fromBytes}
-use Rattle.cart.specs.Calls.{Call, saveRead, saveWrite, eepromBeginDma, eepromWrite, eepromRead, loadSave, saveData, chipState, takeSaveDirty}
+use Rattle.cart.specs.Calls.{Call, saveRead, saveWrite, eepromBeginDma, eepromWrite, eepromRead}
+use Rattle.cart.specs.Calls.{loadSave, saveData, chipState, takeSaveDirty}
 use Rattle.cart.specs.Cut.{Turn, Shown, Compared, run, uncut}
 use Rattle.cart.specs.Replies.{first}
 use Rattle.state_calls.specs.StateAnswer.{orZeros}
 use Rattle.call_list.specs.declared.Item.{Item}
-use Rattle.call_list.specs.declared.Item.the-variants.{SaveRead, SaveWrite, EepromRead, EepromWrite, BeginDma, TakeFlag, ChipState, LoadSave, SaveData, Cut, Bad}
+use Rattle.call_list.specs.declared.Item.the-variants.{SaveRead, SaveWrite, EepromRead, EepromWrite, BeginDma}
+use Rattle.call_list.specs.declared.Item.the-variants.{TakeFlag, ChipState, LoadSave, SaveData, Cut, Bad}
 use Rattle.call_list.specs.Items.{Place, items}
 use Rattle.replay.specs.Replay.{fourBytes, replay}
 
--- how many cuts stand at the front of a list
+-- how many cuts are at the front of a list
 abbrev pub cutOr : Item → ℕ → ℕ
 cutOr (SaveRead a) n = 0
 cutOr (SaveWrite a v) n = 0
@@ -33,7 +35,7 @@ unfoldable pub cutsInFront : List Place → ℕ
 cutsInFront [] = 0
 cutsInFront (p ∷ list) = cutOr (p .item) (cutsInFront list)
 
--- the calls of a list, with the destinations that come with them and the cuts behind them
+-- the calls of a list, with their destinations and the cuts after each
 abbrev pub turn : Call → List ℕ → ℕ → Turn
 turn c d n = record { call = c; destination = d; cutsBehind = n }
 
@@ -79,11 +81,16 @@ fileBytes n (some f) = 0 ∷ (fourBytes (length f) ++ into f (replicate n 0))
 unfoldable pub encoded : ℕ → List Turn → Compared → List ℕ
 encoded n list r = callsBytes (map (λ t. t .call) list) (r .calls) ++ (fileBytes n (r .file) ++ (0 ∷ r .bytes))
 
+-- the output with what a run of the turns from the opened image shows, encoded, of the list
+abbrev pub shownOf : List ℕ → List ℕ → List Turn → List Turn → List ℕ → List ℕ
+shownOf image memory list turned out =
+    into (encoded (length memory) list (run image memory turned (fromBytes image memory .next))) out
+
 -- what an accepted replay writes is what the list shows without its cuts, and what it shows with them
 pub record ReplayRuns : Type 0 where
   pub withoutCuts : (image bytes memory scratch out : List ℕ) → replay image bytes memory scratch out .0 ≡ 0
       → let list = turns (items 0 bytes) in
-      replay image bytes memory scratch out .3 ≡ into (encoded (length memory) list (run image memory (uncut list) (fromBytes image memory .next))) out
+      replay image bytes memory scratch out .3 ≡ shownOf image memory list (uncut list) out
   pub withCuts : (image bytes memory scratch out : List ℕ) → replay image bytes memory scratch out .0 ≡ 0
       → let list = turns (items 0 bytes) in
-      replay image bytes memory scratch out .3 ≡ into (encoded (length memory) list (run image memory list (fromBytes image memory .next))) out
+      replay image bytes memory scratch out .3 ≡ shownOf image memory list list out

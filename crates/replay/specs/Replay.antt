@@ -1,5 +1,5 @@
 -- What a replay answers: the machine's run of the list without its cuts. Document 01, "Cut runs", and demand 3.
-use mathlib.Core.Bool.{cond, not}
+use mathlib.Core.Bool.{cond}
 use mathlib.Core.List.{List, [], _∷_, _++_}
 use Prim.Native.Nat.{ℕ, _+_, _/_, _%_}
 use lib.Dec.{eqb}
@@ -10,12 +10,14 @@ use Rattle.kind.specs.Kind.{usesEeprom, detectSaveType}
 use Rattle.cart.specs.declared.Cartridge.{Cartridge}
 use Rattle.cart.specs.declared.Reply.{Reply}
 use Rattle.cart.specs.Record.{State, Outcome, openQuestions, fromBytes}
-use Rattle.cart.specs.Calls.{saveRead, saveWrite, eepromBeginDma, eepromWrite, eepromRead, loadSave, saveData, chipState, takeSaveDirty, step}
+use Rattle.cart.specs.Calls.{saveRead, saveWrite, eepromBeginDma, eepromWrite, eepromRead}
+use Rattle.cart.specs.Calls.{loadSave, saveData, chipState, takeSaveDirty, step}
 use Rattle.cart.specs.Cut.{cut}
 use Rattle.cart.specs.Replies.{first}
 use Rattle.state_calls.specs.StateAnswer.{orZeros}
 use Rattle.call_list.specs.declared.Item.{Item}
-use Rattle.call_list.specs.declared.Item.the-variants.{SaveRead, SaveWrite, EepromRead, EepromWrite, BeginDma, TakeFlag, ChipState, LoadSave, SaveData, Cut, Bad}
+use Rattle.call_list.specs.declared.Item.the-variants.{SaveRead, SaveWrite, EepromRead, EepromWrite, BeginDma}
+use Rattle.call_list.specs.declared.Item.the-variants.{TakeFlag, ChipState, LoadSave, SaveData, Cut, Bad}
 use Rattle.call_list.specs.Items.{Place, items}
 use Rattle.call_list.specs.ListQuestions.{listQuestions}
 
@@ -31,8 +33,8 @@ answered bytes next = record { bytes = bytes; next = next }
 abbrev pub fourBytes : ℕ → List ℕ
 fourBytes n = n / 16777216 % 256 ∷ n / 65536 % 256 ∷ n / 256 % 256 ∷ n % 256 ∷ []
 
--- a refusal's number or 0; behind it the byte that a call answers, or the 18 bytes, or a file's length and the destination: 0 where it is refused.
--- "Left out are the answer of `take_save_dirty`": it is a status alone
+-- a refusal's number or 0; then the byte that a call answers, the chip state, or a file's length and the destination,
+-- all 0 if refused. "Left out are the answer of `take_save_dirty`": it is a status alone
 abbrev pub statusAnswer : Outcome → Answered
 statusAnswer o = answered (o .refusal ∷ []) (o .next)
 
@@ -55,6 +57,10 @@ valueShown r = (r .cart, r .refusal ∷ r .value % 256 ∷ [])
 abbrev pub left : Answered → State × List ℕ
 left a = (a .next, a .bytes)
 
+-- an export into n zeros
+abbrev pub exportInto : ℕ → State → Outcome
+exportInto n s = step saveData (replicate n 0) s
+
 -- the item i, whose bytes begin l; `atCut` is what a cut does
 unfoldable pub play : (State → State) → Item → List ℕ → State → Answered
 play atCut (SaveRead a) l s = valueAnswer (step (saveRead a) [] s)
@@ -65,7 +71,7 @@ play atCut (BeginDma words) l s = statusAnswer (step (eepromBeginDma words) [] s
 play atCut TakeFlag l s = statusAnswer (step takeSaveDirty [] s)
 play atCut ChipState l s = recordAnswer (step chipState [] s)
 play atCut (LoadSave n) l s = statusAnswer (step (loadSave (take n (drop 5 l))) [] s)
-play atCut (SaveData n) l s = fileAnswer (step saveData (replicate n 0) s)
+play atCut (SaveData n) l s = fileAnswer (exportInto n s)
 play atCut Cut l s = answered [] (atCut s)
 play atCut Bad l s = answered [] s
 
@@ -76,15 +82,16 @@ playAll atCut (p ∷ list) s =
     let r = playAll atCut list (a .next) in
     answered (a .bytes ++ r .bytes) (r .next)
 
--- "at the list's end the file, or that there is none, and the 18 bytes": an export into zeros as many as the memory has bytes, and `chip_state`
+-- "at the list's end the file, or that there is none, and the 18 bytes": an export into as many zeros as the memory
+-- has bytes, and `chip_state`
 unfoldable pub ending : State → List ℕ
-ending s = fileAnswer (step saveData (replicate (length (s .memory)) 0) s) .bytes ++ recordAnswer (step chipState [] s) .bytes
+ending s = fileAnswer (exportInto (length (s .memory)) s) .bytes ++ recordAnswer (step chipState [] s) .bytes
 
 -- a machine that is not cut: a cut does nothing
 abbrev pub notCut : State → State
 notCut s = s
 
--- and one that is cut, the memory as it stands lent to the opening
+-- and one that is cut; the opening is passed the memory as it is
 abbrev pub cutAt : List ℕ → State → State
 cutAt image s = cut image (s .memory) s
 
@@ -100,9 +107,10 @@ uncutRun list s =
 -- 1 and 3 as at opening, and then what is asked of the list
 abbrev pub replayQuestions : List ℕ → List ℕ → List ℕ → ℕ → ℕ → List Question
 replayQuestions image bytes memory scratch out =
-    openQuestions image memory ++ listQuestions (items 0 bytes) (usesEeprom (detectSaveType image)) (length memory) scratch out
+    openQuestions image memory
+    ++ listQuestions (items 0 bytes) (usesEeprom (detectSaveType image)) (length memory) scratch out
 
--- the refusal or 0, the memory, the scratch and the output: the scratch is left all 0, and refused, all is left as it was
+-- the refusal or 0, the memory, the scratch, which is left all 0, and the output; a refused replay leaves all as it was
 unfoldable pub replay : List ℕ → List ℕ → List ℕ → List ℕ → List ℕ → ℕ × List ℕ × List ℕ × List ℕ
 replay image bytes memory scratch out =
     let n = asked (replayQuestions image bytes memory (length scratch) (length out)) in

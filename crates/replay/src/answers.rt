@@ -1,4 +1,4 @@
-// What a call answers, as bytes. The output that is lent is as long as the answer.
+// What a call answers, as bytes. The caller's output is as long as the answer.
 use cart::Cartridge;
 use cart::Reply;
 use file_calls::save_data;
@@ -7,11 +7,11 @@ use lists::fill;
 use state_calls::StateAnswer;
 ghost use mathlib.Core.Path.{_≡_};
 ghost use mathlib.Core.List.{[], _∷_};
-ghost use Prim.Native.Nat.{_-_, _%_, _≤_};
-ghost use lib.ListN.{length, replicate};
-ghost use Rattle.cart.specs.Calls.{saveData, step};
+ghost use Prim.Native.Nat.{_+_, _-_, _%_, _≤_};
+ghost use lib.ListN.{length};
+ghost use Rattle.cart.specs.ChipState.{stateSize};
 ghost use Rattle.cart.specs.Replies.{state, exportReplied};
-ghost use Rattle.replay.specs.Replay.{fourBytes, fileAnswer};
+ghost use Rattle.replay.specs.Replay.{fourBytes, fileAnswer, exportInto};
 
 pub fn put_status(out: &mut [u8], refusal: u8)
     requires { ⌜ length (now out) ≡ 1 ⌝ }
@@ -29,8 +29,8 @@ pub fn put_value(out: &mut [u8], reply: Reply)
 }
 
 pub fn put_state(out: &mut [u8], state: StateAnswer)
-    requires { ⌜ length (now out) ≡ 19 ⌝ }
-    requires { ⌜ length (state .bytes) ≡ 18 ⌝ }
+    requires { ⌜ length (now out) ≡ 1 + stateSize ⌝ }
+    requires { ⌜ length (state .bytes) ≡ stateSize ⌝ }
     ensures { λ _. ⌜ now (out .exit) ≡ state .refusal ∷ state .bytes ⌝ }
 {
     let bytes = state.bytes;
@@ -40,7 +40,8 @@ pub fn put_state(out: &mut [u8], state: StateAnswer)
 
 // An export into zeros.
 fn export_into(cart: Cartridge, memory: &[u8], destination: &mut [u8]) -> Reply
-    ensures { λ r. ⌜ (r, now (destination .exit)) ≡ exportReplied (step saveData (replicate (length (now (destination .entry))) 0) (state cart (now (memory .entry)))) ⌝ }
+    ensures { λ r. ⌜ (r, now (destination .exit))
+        ≡ exportReplied (exportInto (length (now (destination .entry))) (state cart (now (memory .entry)))) ⌝ }
 {
     fill(destination, 0);
     save_data(cart, memory, destination)
@@ -57,10 +58,11 @@ fn put_length(out: &mut [u8], reply: Reply)
     out[4] = (reply.value % 256) as u8;
 }
 
-// The destination is what is lent behind five bytes.
+// The destination is the output after its first five bytes.
 pub fn put_file(cart: Cartridge, memory: &[u8], out: &mut [u8])
     requires { ⌜ 5 ≤ length (now out) ⌝ }
-    ensures { λ _. ⌜ now (out .exit) ≡ fileAnswer (step saveData (replicate (length (now (out .entry)) - 5) 0) (state cart (now (memory .entry)))) .bytes ⌝ }
+    ensures { λ _. ⌜ now (out .exit)
+        ≡ fileAnswer (exportInto (length (now (out .entry)) - 5) (state cart (now (memory .entry)))) .bytes ⌝ }
     ensures { λ _. ⌜ length (now (out .exit)) ≡ length (now (out .entry)) ⌝ }
 {
     let exported = export_into(cart, memory, &mut out[5..]);

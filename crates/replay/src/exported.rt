@@ -1,4 +1,4 @@
-// The call that a C program links: what is asked, and then the list.
+// The call that a C program links.
 use crate::running::run;
 use call_list::ask_list;
 use image::image_length;
@@ -11,9 +11,10 @@ ghost use mathlib.Core.Path.{_≡_};
 ghost use Rattle.lists.specs.Questions.{asked};
 ghost use Rattle.replay.specs.Replay.{replayQuestions, replay};
 
-// The number of the first question that is answered no, or 0.
+// The number of the first question whose answer is no, or 0.
 fn ask(image: &[u8], list: &[u8], memory: &[u8], scratch: usize, out: usize) -> u8
-    ensures { λ r. ⌜ r ≡ asked (replayQuestions (now (image .entry)) (now (list .entry)) (now (memory .entry)) scratch out) ⌝ }
+    ensures { λ r. ⌜ r
+        ≡ asked (replayQuestions (now (image .entry)) (now (list .entry)) (now (memory .entry)) scratch out) ⌝ }
 {
     if !image_length(image.len()) {
         return 1;
@@ -25,7 +26,7 @@ fn ask(image: &[u8], list: &[u8], memory: &[u8], scratch: usize, out: usize) -> 
     ask_list(list, uses_eeprom(kind), memory.len(), scratch, out)
 }
 
-// Answers 0 or a refusal; refused, nothing is changed.
+// Returns 0 or a refusal's number. A refused call changes nothing.
 #[no_mangle]
 pub extern "C" fn gbasave_replay(
     image: &[u8],
@@ -34,7 +35,9 @@ pub extern "C" fn gbasave_replay(
     scratch: &mut [u8],
     out: &mut [u8],
 ) -> u32
-    ensures { λ r. ⌜ (r, now (memory .exit), now (scratch .exit), now (out .exit)) ≡ replay (now (image .entry)) (now (list .entry)) (now (memory .entry)) (now (scratch .entry)) (now (out .entry)) ⌝ }
+    ensures { λ r. ⌜ (r, now (memory .exit), now (scratch .exit), now (out .exit))
+        ≡ replay (now (image .entry)) (now (list .entry))
+        (now (memory .entry)) (now (scratch .entry)) (now (out .entry)) ⌝ }
 {
     let refusal = ask(image, list, memory, scratch.len(), out.len());
     if refusal != 0 {

@@ -1,4 +1,4 @@
-// A list of encoded calls with cuts between them, run through the real calls: whatever cuts there are, it answers what the machine run uncut answers.
+// Runs an encoded list of calls and cuts through the real calls. The answers do not depend on the cuts.
 
 mod answers;
 mod exported;

@@ -1,4 +1,4 @@
-// An item as the call that it is.
+// An item, played as its call.
 use crate::answers::put_file;
 use crate::answers::put_state;
 use crate::answers::put_status;
@@ -56,7 +56,9 @@ pub fn play(
     requires { ⌜ recordAllowed cart ≡ true ⌝ }
     requires { ⌜ length (now memory) ≡ memorySize (cart .kind) ⌝ }
     requires { ⌜ length (now memory) ≤ length (now scratch) ⌝ }
-    ensures { λ r. ⌜ (state r (now (memory .exit)), now (out .exit)) ≡ left (play·spec (cutAt (now (image .entry))) item (now (list .entry)) (state cart (now (memory .entry)))) ⌝ }
+    ensures { λ r. ⌜ (state r (now (memory .exit)), now (out .exit))
+        ≡ left (play·spec (cutAt (now (image .entry))) item (now (list .entry))
+        (state cart (now (memory .entry)))) ⌝ }
 {
     match item {
         Item::SaveRead(address) => show_value(save_read(cart, memory, address), out),

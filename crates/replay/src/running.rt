@@ -2,6 +2,7 @@
 use crate::answers::put_file;
 use crate::answers::put_state;
 use crate::playing::play;
+use call_list::ending_room;
 use call_list::item_in;
 use call_list::item_length;
 use call_list::item_room;
@@ -15,11 +16,10 @@ ghost use Rattle.lists.specs.Questions.{asked};
 ghost use Rattle.kind.specs.Kind.{usesEeprom, detectSaveType};
 ghost use Rattle.cart.specs.Record.{openQuestions, fresh as fresh·spec};
 ghost use Rattle.cart.specs.Replies.{state};
-ghost use Rattle.call_list.specs.Items.{items, byteWrites, room};
-ghost use Rattle.call_list.specs.ListQuestions.{endingRoom};
+ghost use Rattle.call_list.specs.Items.{endingRoom, items, byteWrites, room};
 ghost use Rattle.replay.specs.Replay.{ending, uncutRun, shownBy};
 
-// What is answered behind the last item.
+// What is answered after the last item.
 fn end_with(cart: Cartridge, memory: &[u8], out: &mut [u8])
     requires { ⌜ length (now out) ≡ endingRoom (length (now memory)) ⌝ }
     ensures { λ _. ⌜ now (out .exit) ≡ ending (state cart (now (memory .entry))) ⌝ }
@@ -42,7 +42,8 @@ pub fn run(
     requires { ⌜ (byteWrites (items 0 (now list)) && usesEeprom (detectSaveType (now image))) ≡ false ⌝ }
     requires { ⌜ length (now memory) ≤ length (now scratch) ⌝ }
     requires { ⌜ room (items 0 (now list)) + endingRoom (length (now memory)) ≤ length (now out) ⌝ }
-    ensures { λ _. ⌜ (now (memory .exit), now (out .exit)) ≡ shownBy (uncutRun (items 0 (now (list .entry))) (fresh·spec (now (image .entry)))) (now (out .entry)) ⌝ }
+    ensures { λ _. ⌜ (now (memory .exit), now (out .exit))
+        ≡ shownBy (uncutRun (items 0 (now (list .entry))) (fresh·spec (now (image .entry)))) (now (out .entry)) ⌝ }
 {
     let mut cart = fresh;
     let mut at = 0;
@@ -62,6 +63,6 @@ pub fn run(
         at = end;
         i += item_length(item);
     }
-    let end = at + 24 + memory.len();
+    let end = at + ending_room(memory.len());
     end_with(cart, memory, &mut out[at..end]);
 }

@@ -1,4 +1,4 @@
-// A frame's call and its answer, printed at the front of `out`.
+// Makes the call of a frame and prints its answer at the front of `out`.
 use crate::digits::byte;
 use crate::digits::bytes_of;
 use crate::digits::decode;
@@ -14,6 +14,7 @@ use crate::rooms::file_room;
 use crate::rooms::line_room;
 use cart::Cartridge;
 use cart::Reply;
+use cart::STATE_SIZE;
 use cart::fresh_cart;
 use carttrace_lib::Played;
 use carttrace_lib::play;
@@ -29,7 +30,9 @@ use frames::push;
 use image::image_length;
 use kind::SaveType;
 use kind::memory_size;
-use memory::erase;
+use memory::NO_FILE;
+use memory::Store;
+use memory::apply;
 use state_calls::restore_chip_state;
 ghost use Prim.Native.Nat.{_≤_};
 ghost use lib.ListN.{length};
@@ -41,7 +44,7 @@ fn played(cart: Cartridge, len: usize) -> Played {
     }
 }
 
-// To a text that is no frame.
+// For a text that is not a frame.
 fn no_answer(cart: Cartridge) -> Played {
     played(cart, 0)
 }
@@ -120,7 +123,7 @@ fn export(cart: Cartridge, memory: &[u8], out: &mut [u8]) -> Played
     played(cart, print_line(out, 0, &answer))
 }
 
-// 0A 18 bytes (36).
+// 0A chip state (36).
 fn restore(s: &[u8], cart: Cartridge, out: &mut [u8]) -> Played
     requires { ⌜ 256 ≤ length (now out) ⌝ }
 {
@@ -137,7 +140,7 @@ fn opened(kind: SaveType, len: usize, cart: Cartridge, memory: &mut [u8], out: &
         return played(cart, print_line(out, 1, b""));
     }
     let n = at_most(memory_size(kind), memory);
-    erase(&mut memory[..n]);
+    apply(Store::Chip, &NO_FILE, &mut memory[..n]);
     played(fresh_cart(len, kind), print_line(out, 0, b""))
 }
 
@@ -160,7 +163,7 @@ fn frame_length(number: u8) -> usize {
     match number {
         0x08 => 5,
         0x09 => 1,
-        0x0A => 19,
+        0x0A => 1 + STATE_SIZE,
         0x0C => 6,
         0x0D => 2,
         _ => 0,

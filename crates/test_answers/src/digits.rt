@@ -4,7 +4,7 @@ use lists::low32;
 ghost use Prim.Native.Nat.{_≤_};
 ghost use Rattle.io.specs.Counts.{Counts};
 
-// The byte that two digits are, or 256.
+// The byte of two digits, or 256.
 pub fn pair(high: u8, low: u8) -> u16 {
     let h = value_of(high);
     let l = value_of(low);
@@ -17,7 +17,7 @@ pub fn pair(high: u8, low: u8) -> u16 {
     h as u16 * 16 + l as u16
 }
 
-// The bytes that a text of digits is go to the front; the answer is how many, and 0 where it is no such text or too long.
+// Writes the bytes of a text of digits to the front and returns their count; 0 if it is no such text or too long.
 pub fn decode(bytes: &mut [u8], text: &[u8]) -> usize
     ensures { λ r. ⌜ Counts r (now (bytes .exit)) ⌝ }
 {

@@ -23,7 +23,7 @@ ghost use mathlib.Core.Path.{_≡_};
 ghost use Prim.Native.Nat.{_≤_};
 ghost use lib.ListN.{length};
 
-// A cartridge of the image, whose memory goes when it is opened.
+// Opens the image; the memory is not kept.
 fn opened(image: &[u8]) -> Reply {
     let mut memory = memory_room();
     let n = at_most(memory_size(detect_save_type(image)), &memory);
@@ -68,7 +68,7 @@ fn print_front(answer: &[u8], len: usize, out: &mut [u8]) -> usize
     print_line(out, 0, &answer[..n])
 }
 
-// The title goes behind its head; the answer is how long both are.
+// Writes the head and, after it, the title. Returns the length of both.
 fn put_answer(image: &[u8], cart: Cartridge, answer: &mut [u8]) -> usize
     requires { ⌜ 15 ≤ length (now answer) ⌝ }
 {

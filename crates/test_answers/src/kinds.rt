@@ -17,15 +17,10 @@ pub enum Kind {
 }
 
 pub fn kind_of(number: u8) -> Kind {
-    match number {
-        0 => Kind::Of(SaveType::None),
-        1 => Kind::Of(SaveType::Sram),
-        2 => Kind::Of(SaveType::Flash64),
-        3 => Kind::Of(SaveType::Flash128),
-        4 => Kind::Of(SaveType::Eeprom512),
-        5 => Kind::Of(SaveType::Eeprom8k),
-        _ => Kind::Nothing,
+    if 5 < number {
+        return Kind::Nothing;
     }
+    Kind::Of(kind::kind_of(number))
 }
 
 fn print_number(x: u32, out: &mut [u8]) -> usize

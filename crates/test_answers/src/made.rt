@@ -39,7 +39,7 @@ pub fn make_image(image: &mut [u8], seed: u8) {
     make_rows(image, seed);
 }
 
-// A text from a place on; what would stand past the end falls away.
+// Writes a text at a place; what would go past the end is left out.
 pub fn put_text(image: &mut [u8], place: usize, text: &[u8]) {
     if image.len() < place {
         return;

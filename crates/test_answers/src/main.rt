@@ -1,5 +1,5 @@
-// Replays the list of the original's answers: does each line's call, prints every line whose answer is another one, and counts.
-// `compare/README.md` says what the frames are.
+// Replays the list of the original's answers: makes each line's call, prints every line whose answer differs, and
+// counts. `compare/README.md` describes the frames.
 
 mod calls;
 mod digits;
@@ -23,14 +23,14 @@ use tally::counted;
 use tally::no_lines;
 use tally::print_tally;
 
-// What is carried from line to line.
+// The state between two lines.
 struct Replay {
     cart: Cartridge,
     tally: Tally,
 }
 
-// What stands behind a place.
-fn behind(text: &[u8], place: usize) -> &[u8] {
+// The text after a place.
+fn after(text: &[u8], place: usize) -> &[u8] {
     if place < text.len() {
         let start = place + 1;
         return &text[start..];
@@ -38,7 +38,7 @@ fn behind(text: &[u8], place: usize) -> &[u8] {
     &text[..0]
 }
 
-// An answer stands in `out` with a line feed. Where there is none, nothing agrees.
+// The answer in `out` ends with a line feed. No answer never agrees.
 fn agrees(expected: &[u8], out: &[u8], len: usize) -> bool {
     if len == 0 {
         return false;
@@ -71,7 +71,7 @@ fn print_difference(number: u64, frame: &[u8], expected: &[u8], out: &[u8], len:
     print_answer(out, len);
 }
 
-// The line, counted, and printed where it differs.
+// Counts the line, and prints it if it differs.
 fn held(tally: Tally, frame: &[u8], expected: &[u8], out: &[u8], len: usize) -> Tally {
     if agrees(expected, out, len) {
         return counted(tally, frame, true, true);
@@ -90,7 +90,7 @@ fn line(text: &[u8], replay: Replay, memory: &mut [u8]) -> Replay {
     let mut out = line_room();
     let p = answer(frame, cart, memory, &mut out);
     let next = p.cart;
-    let tally = held(tally, frame, behind(text, space), &out, p.len);
+    let tally = held(tally, frame, after(text, space), &out, p.len);
     Replay {
         cart: next,
         tally: tally,

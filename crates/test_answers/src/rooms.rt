@@ -1,4 +1,4 @@
-// Buffers, and how much of one can be lent.
+// Buffers, and how much of one can be used.
 ghost use mathlib.Core.Path.{_≡_};
 ghost use Prim.Native.Nat.{_≤_};
 ghost use lib.ListN.{length};
@@ -32,7 +32,7 @@ pub fn line_room() -> [u8; 256]
     [0; 256]
 }
 
-// n, or the length where that is less.
+// n, or the length if that is less.
 pub fn at_most(n: usize, s: &[u8]) -> usize
     ensures { λ r. ⌜ Counts r (now (s .entry)) ⌝ }
     ensures { λ r. ⌜ r ≤ n ⌝ }

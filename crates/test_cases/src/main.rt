@@ -1,4 +1,5 @@
-// Runs the trace in each file that an argument names, fed in pieces of seven characters, and prints what carttrace prints for it.
+// Runs the trace in each file that an argument names and prints what carttrace prints for it. The text is fed in pieces
+// of seven characters.
 
 use carttrace_lib::Session;
 use carttrace_lib::Told;

@@ -133,7 +133,7 @@ fn crcs() {
     crc(b"123456789");
 }
 
-// The Unicode Standard's tables 3-8 to 3-11, titles whose sequences are cut off by the end, zeros inside and at the end.
+// The Unicode Standard's tables 3-8 to 3-11, sequences that the title's end cuts off, zeros inside and at the end.
 fn titles() {
     title(b"\xC0\xAF\xE0\x80\xBF\xF0\x81\x82\x41\0\0\0");
     title(b"\xED\xA0\x80\xED\xBF\xBF\xED\xAF\x41\0\0\0");

@@ -15,7 +15,7 @@ returns c =
     let good = c .before .before .before .before .before .both .ensures ∙ ap (λ (b : Bool). s .good && b) (c .before .before .before .before .before .before .is-item .ensures) in
     let writes = c .before .before .before .either .ensures ∙ ap (λ (b : Bool). s .writes || b) (c .before .before .before .before .is-write .ensures) in
     let fits = c .before .both2 .ensures ∙ ap (λ (n : ℕ). s .fits && leb n (s .left)) room in
-    let left = c .left-behind .ensures ∙ ap (λ (n : ℕ). s .left - n) room in
+    let left = c .room-after .ensures ∙ ap (λ (n : ℕ). s .left - n) room in
     λ i. surveyWith (good i) (writes i) (fits i) (left i)
 
 pub surveyed-spec : {M : Type 1} → statement M

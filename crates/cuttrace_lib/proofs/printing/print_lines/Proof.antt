@@ -85,11 +85,11 @@ loop-less c = omega (arith, c .before .before .before .before .before .before .b
 loop-again : tie.Need-loop-again Inv-loop μ-loop
 loop-again c = print-more (c .before .before .before .before .before .before .before .before .before .before .before .line-length .result) (c .before .before .before .before .before .item-room .result) (c .before .before .before .before .before .before .before .before .read-line .result) _ (c .before .before .print-item .last .1 .1 .0) (c .before .before .print-item .result) (c .before .before .before .before .before .before .before .before .before .before .before .before .before .before .loop .inv) (omega (arith, c .before .before .before .before .before .before .before .before .before .before .before .before .before .loop-test)) (c .before .before .before .before .before .before .before .before .before .before .before .line-length .ensures .0) (c .before .before .before .before .before .before .before .before .before .before .before .line-length .ensures .1) (c .before .before .before .before .before .before .before .before .read-line .ensures .0) (c .before .before .before .before .before .item-room .ensures) (c .before .before .before .before .before .before .before .room .given) (c .before .before .print-item .ensures)
 
-add-end-2 : tie.Need-add-end-2 Inv-loop μ-loop
-add-end-2 c = omega (arith, c .before .loop .inv .atOk, c .before .before .before .before .before .before .good)
+ending-room-requires : tie.Need-ending-room-requires Inv-loop μ-loop
+ending-room-requires c κs = c .before .before .before .before .before .before .pre .1 .0
 
-add-end-3 : tie.Need-add-end-3 Inv-loop μ-loop
-add-end-3 c = omega (arith, c .before .loop .inv .atOk, c .before .before .before .before .before .before .good)
+add-end-2 : tie.Need-add-end-2 Inv-loop μ-loop
+add-end-2 c = omega (arith, c .ending-room .ensures, c .before .before .loop .inv .atOk, c .before .before .before .before .before .before .before .good)
 
 sub-print-ending : tie.Need-sub-print-ending Inv-loop μ-loop
 sub-print-ending c = omega arith
@@ -98,31 +98,49 @@ part-print-ending-start : tie.Need-part-print-ending-start Inv-loop μ-loop
 part-print-ending-start c = omega arith
 
 part-print-ending-end : tie.Need-part-print-ending-end Inv-loop μ-loop
-part-print-ending-end c = omega (arith, c .before .loop .inv .atOk)
+part-print-ending-end c = omega (arith, c .ending-room .ensures, c .before .before .loop .inv .atOk)
 
 sub-print-ending-2 : tie.Need-sub-print-ending-2 Inv-loop μ-loop
-sub-print-ending-2 c = let b = c .before .before .loop .inv in omega (arith, b .lenOk, b .atOk, b .placeOk, b .outOk, out-length b)
+sub-print-ending-2 c =
+    let b = c .before .before .before .loop .inv in
+    omega (arith, b .lenOk, b .atOk, b .placeOk, b .outOk, out-length b)
 
 part-print-ending-start-2 : tie.Need-part-print-ending-start-2 Inv-loop μ-loop
-part-print-ending-start-2 c = let b = c .before .before .loop .inv in omega (arith, b .lenOk, b .atOk, b .placeOk, b .outOk, out-length b)
+part-print-ending-start-2 c =
+    let b = c .before .before .before .loop .inv in
+    omega (arith, b .lenOk, b .atOk, b .placeOk, b .outOk, out-length b)
 
 part-print-ending-end-2 : tie.Need-part-print-ending-end-2 Inv-loop μ-loop
 part-print-ending-end-2 c = search needs
 
 print-ending-requires : tie.Need-print-ending-requires Inv-loop μ-loop
-print-ending-requires c κs = let b = c .before .before .before .loop in let m = c .before .before .before .before .before .before .before .before .args .memory in let l = piece-length (b .at) (b .at + 24 + m) (24 + m) (c .before .before .before .before .before .before .before .before .args .answers .now) (omega arith) (omega (arith, b .inv .atOk)) in (l, omega (arith, l, part-long (b .out) (b .len), out-length (b .inv), b .inv .lenOk, b .inv .atOk, b .inv .outOk, b .inv .placeOk))
+print-ending-requires c κs =
+    let b = c .before .before .before .before .loop in
+    let r = c .before .before .ending-room in
+    let a = c .before .before .before .before .before .before .before .before .before .args in
+    let l = piece-length (b .at) (b .at + r .result) (r .result) (a .answers .now) refl (omega (arith, r .ensures, b .inv .atOk)) ∙ r .ensures in
+    (l, omega (arith, l, part-long (b .out) (b .len), out-length (b .inv), b .inv .lenOk, b .inv .atOk, b .inv .outOk, b .inv .placeOk))
 
 add-result : tie.Need-add-result Inv-loop μ-loop
-add-result c = let b = c .before .before .before .before .before .before .loop in let m = c .before .before .before .before .before .before .before .before .before .before .before .args .memory in let l = piece-length (b .at) (b .at + 24 + m) (24 + m) (c .before .before .before .before .before .before .before .before .before .before .before .args .answers .now) (omega arith) (omega (arith, b .inv .atOk)) in omega (arith, c .before .before .print-ending .ensures .0, ending-short m (take (b .at + 24 + m - b .at) (drop (b .at) (c .before .before .before .before .before .before .before .before .before .before .before .args .answers .now))) l, b .inv .lenOk, b .inv .atOk, b .inv .outOk, b .inv .placeOk, c .before .before .before .before .before .before .before .before .before .before .before .good)
+add-result c =
+    let b = c .before .before .before .before .before .before .before .loop in
+    let r = c .before .before .before .before .before .ending-room in
+    let s = c .before .before .before .before .before .before .before .before .before .before .before .before in
+    let a = s .args in
+    let l = piece-length (b .at) (b .at + r .result) (r .result) (a .answers .now) refl (omega (arith, r .ensures, b .inv .atOk)) ∙ r .ensures in
+    omega (arith, c .before .before .print-ending .ensures .0, ending-short (a .memory) (take (b .at + r .result - b .at) (drop (b .at) (a .answers .now))) l, b .inv .lenOk, b .inv .atOk, b .inv .outOk, b .inv .placeOk, s .good)
 
 same-length : tie.Need-same-length Inv-loop μ-loop
-same-length c = c .before .before .before .before .before .before .loop .inv .sameOk
+same-length c = c .before .before .before .before .before .before .before .loop .inv .sameOk
 
 same-length-2 : tie.Need-same-length-2 Inv-loop μ-loop
-same-length-2 c = c .before .out2 .given .1 ∙ out-length (c .before .before .before .before .before .before .loop .inv)
+same-length-2 c = c .before .out2 .given .1 ∙ out-length (c .before .before .before .before .before .before .before .loop .inv)
 
 returns : tie.Need-returns Inv-loop μ-loop
-returns c = print-all (c .before .before .print-ending .last .1 .1 .0) (c .before .before .print-ending .result) (c .before .before .before .before .before .before .loop .inv) (omega (arith, c .before .before .before .before .before .loop-test)) (c .before .before .print-ending .ensures)
+returns c =
+    let r = c .before .before .before .before .before .ending-room in
+    let e = c .before .before .print-ending in
+    print-all (r .result) (e .last .1 .1 .0) (e .result) (c .before .before .before .before .before .before .before .loop .inv) (omega (arith, c .before .before .before .before .before .before .loop-test)) (r .ensures) (e .ensures)
 
 pub print-lines-spec : {M : Type 1} → statement M
 print-lines-spec =
@@ -153,8 +171,8 @@ print-lines-spec =
     add-i
     loop-less
     loop-again
+    ending-room-requires
     add-end-2
-    add-end-3
     sub-print-ending
     part-print-ending-start
     part-print-ending-end

@@ -14,8 +14,8 @@ returns c = (shows-none (c .before .before .before .before .before .before .befo
 line-length-requires : tie.Need-line-length-requires
 line-length-requires c κs = search needs
 
-behind-requires : tie.Need-behind-requires
-behind-requires c κs = search needs
+after-line-requires : tie.Need-after-line-requires
+after-line-requires c κs = search needs
 
 slice-aggregate-first-kind : tie.Need-slice-aggregate-first-kind
 slice-aggregate-first-kind c = sym (length-take-le (c .before .before .line-length .result) (c .before .before .before .before .before .before .before .before .before .before .args .text .now) (c .before .before .line-length .ensures .1))
@@ -64,7 +64,7 @@ same-length-5 c = search needs
 
 returns-2 : tie.Need-returns-2
 returns-2 c = let a = c .before .before .before .before .before .before .before .before .before .before .before .before .before .before .before .before .before .before .before .before .before .before .before .before .before .before .before .before .before .before .before .args in
-    let s = shows (a .out .now) (trace-first (a .text .now) (a .memory .now) (a .scratch .now) (a .answers .now) (c .before .before .before .before .before .before .before .before .before .before .before .before .before .before .before .before .before .before .before .before .before .before .before .line-length .result) (c .before .before .before .before .before .before .before .before .before .before .before .before .before .before .before .before .before .before .before .before .before .before .behind .result) _ (c .before .before .before .before .before .before .before .before .before .before .before .before .before .before .before .before .before .before .before .before .before .before .before .before .if1 .left) (c .before .before .before .before .before .before .before .before .before .before .before .before .before .before .before .before .before .before .before .before .before .before .before .line-length .ensures .0) (c .before .before .before .before .before .before .before .before .before .before .before .before .before .before .before .before .before .before .before .before .before .before .behind .ensures .1) (sym (c .before .before .before .before .before .before .before .before .before .before .before .before .before .before .before .before .before .before .kind .given .1) ∙ c .before .before .before .before .before .before .before .before .before .before .before .before .before .before .before .before .before .before .before .before .first-kind .ensures)) (c .before .before .before .before .before .before .before .before .before .before .play-lines .ensures .0) (c .before .before .before .before .before .before .before .before .before .before .play-lines .ensures .1) in
+    let s = shows (a .out .now) (trace-first (a .text .now) (a .memory .now) (a .scratch .now) (a .answers .now) (c .before .before .before .before .before .before .before .before .before .before .before .before .before .before .before .before .before .before .before .before .before .before .before .line-length .result) (c .before .before .before .before .before .before .before .before .before .before .before .before .before .before .before .before .before .before .before .before .before .before .after-line .result) _ (c .before .before .before .before .before .before .before .before .before .before .before .before .before .before .before .before .before .before .before .before .before .before .before .before .if1 .left) (c .before .before .before .before .before .before .before .before .before .before .before .before .before .before .before .before .before .before .before .before .before .before .before .line-length .ensures .0) (c .before .before .before .before .before .before .before .before .before .before .before .before .before .before .before .before .before .before .before .before .before .before .after-line .ensures .1) (sym (c .before .before .before .before .before .before .before .before .before .before .before .before .before .before .before .before .before .before .kind .given .1) ∙ c .before .before .before .before .before .before .before .before .before .before .before .before .before .before .before .before .before .before .before .before .first-kind .ensures)) (c .before .before .before .before .before .before .before .before .before .before .play-lines .ensures .0) (c .before .before .before .before .before .before .before .before .before .before .play-lines .ensures .1) in
     (s, shows-fits (cuttrace (a .text .now) (a .memory .now) (a .scratch .now) (a .answers .now)) _ (a .out .now) s (c .before .out .given))
 
 same-length-6 : tie.Need-same-length-6
@@ -73,7 +73,7 @@ same-length-6 c = search needs
 returns-3 : tie.Need-returns-3
 unfolding playFrom
 returns-3 c = let a = c .before .before .before .before .before .before .before .before .before .before .before .before .before .before .before .before .before .before .args in
-    let s = shows (a .out .now) (trace-first (a .text .now) (a .memory .now) (a .scratch .now) (a .answers .now) (c .before .before .before .before .before .before .before .before .before .before .line-length .result) (c .before .before .before .before .before .before .before .before .before .behind .result) _ (c .before .before .before .before .before .before .before .before .before .before .before .if1 .left) (c .before .before .before .before .before .before .before .before .before .before .line-length .ensures .0) (c .before .before .before .before .before .before .before .before .before .behind .ensures .1) (sym (c .before .before .before .before .before .enum-told .given .1) ∙ c .before .before .before .before .before .before .before .first-kind .ensures)) (c .before .before .print-line .ensures .0) (c .before .before .print-line .ensures .1) in
+    let s = shows (a .out .now) (trace-first (a .text .now) (a .memory .now) (a .scratch .now) (a .answers .now) (c .before .before .before .before .before .before .before .before .before .before .line-length .result) (c .before .before .before .before .before .before .before .before .before .after-line .result) _ (c .before .before .before .before .before .before .before .before .before .before .before .if1 .left) (c .before .before .before .before .before .before .before .before .before .before .line-length .ensures .0) (c .before .before .before .before .before .before .before .before .before .after-line .ensures .1) (sym (c .before .before .before .before .before .enum-told .given .1) ∙ c .before .before .before .before .before .before .before .first-kind .ensures)) (c .before .before .print-line .ensures .0) (c .before .before .print-line .ensures .1) in
     (s, shows-fits (cuttrace (a .text .now) (a .memory .now) (a .scratch .now) (a .answers .now)) _ (a .out .now) s (c .before .out2 .given))
 
 pub run-trace-spec : {M : Type 1} → statement M
@@ -82,7 +82,7 @@ run-trace-spec =
     (tie.spec
     returns
     line-length-requires
-    behind-requires
+    after-line-requires
     slice-aggregate-first-kind
     first-kind-requires
     enum-known-kind

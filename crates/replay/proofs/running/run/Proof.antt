@@ -3,6 +3,7 @@ use mathlib.Core.List.{List, _++_}
 use Prim.Native.Nat.{ℕ, _+_}
 use lib.ListN.{take, drop}
 use Rattle.lists.proofs.Parts.{length-rest, rest}
+use Rattle.kind.proofs.Sizes.{memory-small}
 use Rattle.cart.specs.Replies.{state}
 use Rattle.cart.proofs.Sound.{record-allowed}
 use Rattle.call_list.specs.Items.{itemIn}
@@ -97,11 +98,13 @@ loop-again c = let b = c .before .before .before .before .before .before .before
     (c .before .before .out .given .0 ∙ piece-length (b .at) (b .at + n) n (b .out) refl (omega (arith, c .before .before .before .before .before .before .before .before .before .before .before .before .item-room .ensures, k, out-length (b .inv))))
     (c .before .before .before .before .before .before .memory .given) (c .before .before .before .before .scratch .given) (λ j. take (b .at) (b .out) ++ (o ++ drop (e j) (drop (b .at) (b .out))))
 
-add-end-2 : tie.Need-add-end-2 Inv-loop μ-loop
-add-end-2 c = omega (arith, c .before .loop .inv .roomOk, c .before .before .before .before .before .before .before .good)
+ending-room-requires : tie.Need-ending-room-requires Inv-loop μ-loop
+ending-room-requires c κs =
+    let b = c .before .loop in
+    omega (arith, b .inv .stands .sound .memoryOk, memory-small (b .cart .kind))
 
-add-end-3 : tie.Need-add-end-3 Inv-loop μ-loop
-add-end-3 c = omega (arith, c .before .loop .inv .roomOk, c .before .before .before .before .before .before .before .good)
+add-end-2 : tie.Need-add-end-2 Inv-loop μ-loop
+add-end-2 c = omega (arith, c .ending-room .ensures, c .before .before .loop .inv .roomOk, c .before .before .before .before .before .before .before .before .good)
 
 sub-end-with : tie.Need-sub-end-with Inv-loop μ-loop
 sub-end-with c = omega arith
@@ -110,29 +113,34 @@ part-end-with-start : tie.Need-part-end-with-start Inv-loop μ-loop
 part-end-with-start c = omega arith
 
 part-end-with-end : tie.Need-part-end-with-end Inv-loop μ-loop
-part-end-with-end c = omega (arith, c .before .before .loop .inv .roomOk, out-length (c .before .before .loop .inv))
+part-end-with-end c =
+    let b = c .before .before .before .loop in
+    omega (arith, c .before .ending-room .ensures, b .inv .roomOk, out-length (b .inv))
 
 end-with-requires : tie.Need-end-with-requires Inv-loop μ-loop
-end-with-requires c κs = let b = c .before .before .before .loop in
-    let n = 24 + length (b .memory) in
-    piece-length (b .at) (b .at + 24 + length (b .memory)) n (b .out) (omega arith) (omega (arith, b .inv .roomOk, out-length (b .inv)))
+end-with-requires c κs =
+    let b = c .before .before .before .before .loop in
+    let r = c .before .before .ending-room in
+    piece-length (b .at) (b .at + r .result) (r .result) (b .out) refl (omega (arith, r .ensures, b .inv .roomOk, out-length (b .inv))) ∙ r .ensures
 
 same-length : tie.Need-same-length Inv-loop μ-loop
-same-length c = c .before .before .before .before .before .before .loop .inv .memoryOk
+same-length c = c .before .before .before .before .before .before .before .loop .inv .memoryOk
 
 same-length-2 : tie.Need-same-length-2 Inv-loop μ-loop
-same-length-2 c = c .before .before .before .before .before .before .loop .inv .scratchOk
+same-length-2 c = c .before .before .before .before .before .before .before .loop .inv .scratchOk
 
 same-length-3 : tie.Need-same-length-3 Inv-loop μ-loop
-same-length-3 c = c .before .out2 .given .1 ∙ out-length (c .before .before .before .before .before .before .loop .inv)
+same-length-3 c = c .before .out2 .given .1 ∙ out-length (c .before .before .before .before .before .before .before .loop .inv)
 
 returns : tie.Need-returns Inv-loop μ-loop
-returns c = let b = c .before .before .before .before .before .before .loop in
-    let n = 24 + length (b .memory) in
+returns c =
+    let b = c .before .before .before .before .before .before .before .loop in
+    let r = c .before .before .before .before .before .ending-room in
+    let n = r .result in
     let o = c .before .before .end-with .last .1 .1 .0 in
-    let e : b .at + 24 + length (b .memory) - b .at ≡ n = omega arith in
-    ends (b .inv) (omega (arith, c .before .before .before .before .before .loop-test)) n (c .before .before .end-with .ensures)
-    (c .before .out2 .given .0 ∙ piece-length (b .at) (b .at + 24 + length (b .memory)) n (b .out) (omega arith) (omega (arith, b .inv .roomOk, out-length (b .inv))))
+    let e : b .at + n - b .at ≡ n = omega arith in
+    ends (b .inv) (omega (arith, c .before .before .before .before .before .before .loop-test)) n (c .before .before .end-with .ensures)
+    (c .before .out2 .given .0 ∙ piece-length (b .at) (b .at + n) n (b .out) refl (omega (arith, r .ensures, b .inv .roomOk, out-length (b .inv))))
     (λ j. take (b .at) (b .out) ++ (o ++ drop (e j) (drop (b .at) (b .out))))
 
 pub run-spec : {M : Type 1} → statement M
@@ -159,8 +167,8 @@ run-spec =
     add-i
     loop-less
     loop-again
+    ending-room-requires
     add-end-2
-    add-end-3
     sub-end-with
     part-end-with-start
     part-end-with-end
