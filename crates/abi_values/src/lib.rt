@@ -1,6 +1,7 @@
-// What a record tells in one number: its changed flag, whether its kind has an EEPROM, and where the EEPROM's window starts. None is lent memory:
-// whichever one stands beside the record stays. In front of each stands the quick test of a usual record; a function `_any` is of every record, and
-// called last, so that the quick way pays nothing for it.
+// What a record tells in one number: its changed flag, whether its kind has an EEPROM, and where the EEPROM's
+// window starts. None is lent memory: whichever one stands beside the record stays. In front of each stands the
+// quick test of a usual record; a function `_any` is of every record, and called last, so that the quick way pays
+// nothing for it.
 use c_record::cart_of;
 use c_record::is_record;
 use c_record::write_back;

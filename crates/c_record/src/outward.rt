@@ -36,7 +36,8 @@ fn flag_after(sets: bool, flag: u8) -> u8
     flag
 }
 
-// The flash chip but for its ID mode, and the flag. Stored also where they stay: tests in front of the stores cost more.
+// The flash chip but for its ID mode, and the flag. Stored also where they stay: tests in front of the stores cost
+// more.
 pub fn put_flash(cart: &mut RecordBytes, sets: bool, flash: Flash)
     ensures { λ _. ⌜ now (cart .exit) ≡ withFlash (now (cart .entry)) sets flash ⌝ }
 {

@@ -1,5 +1,6 @@
-// Two quick tests in front of question 2, for records that calls usually meet. A test says yes only where question 2 does. It joins neighbouring
-// bytes to one number and compares once; bytes that a call has just stored are tested one at a time, since a wider load would stall.
+// Two quick tests in front of question 2, for records that calls usually meet. A test says yes only where question
+// 2 does. It joins neighbouring bytes to one number and compares once; bytes that a call has just stored are tested
+// one at a time, since a wider load would stall.
 use c_record::BANK;
 use c_record::BLOCK;
 use c_record::COUNT;
@@ -132,7 +133,8 @@ fn count_usual(phase: u8, count: u8, width: u8, large: bool) -> bool
     count < w(width, large)
 }
 
-// For the serial calls: the flash chip is at rest. The count comes first, so that the test needs no register that has to be saved.
+// For the serial calls: the flash chip is at rest. The count comes first, so that the test needs no register that
+// has to be saved.
 pub fn serial_usual(cart: &RecordBytes) -> bool
     ensures { λ b. ⌜ (b ≡ true → isKnown (now (cart .entry)) ≡ true → isRecord (now (cart .entry)) ≡ true) ⌝ }
 {
