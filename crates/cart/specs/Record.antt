@@ -87,5 +87,5 @@ openQuestions image memory = imageQuestion image ∷ memoryQuestion (detectSaveT
 
 unfoldable pub fromBytes : List ℕ → List ℕ → Outcome
 fromBytes image memory =
-    let none = record { cart = freshCart 0 None; memory = memory } in
+    let none : State = record { cart = freshCart 0 None; memory = memory } in
     guarded (openQuestions image memory) [] none (outcome [] (fresh image) [])
