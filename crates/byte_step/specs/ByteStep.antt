@@ -14,7 +14,8 @@ use Rattle.flash.specs.declared.FlashStep.{FlashStep}
 use Rattle.flash.specs.Flash.{flashRead, flashWrite}
 use Rattle.byte_step.specs.declared.ByteStep.{ByteStep}
 
--- "an even address reads 32h (Flash64) or 62h (Flash128), an odd one 1Bh or 13h": the ID words, the maker in the low byte
+-- "an even address reads 32h (Flash64) or 62h (Flash128), an odd one 1Bh or 13h": the ID words, the maker in the
+-- low byte
 abbrev pub panasonic64K : ℕ
 panasonic64K = 0x1b32
 

@@ -1,5 +1,6 @@
-// `save_read` and `save_write` on the bytes of a record. In front of question 2 is the quick test; a function `_any` is for every record. It is
-// called last and at two places, so that the compiler leaves it out of line and the quick way pays nothing for it.
+// `save_read` and `save_write` on the bytes of a record. In front of question 2 is the quick test; a function
+// `_any` is for every record. It is called last and at two places, so that the compiler leaves it out of line and
+// the quick way pays nothing for it.
 
 use byte_step::read_byte;
 use byte_step::write_byte;

@@ -1,9 +1,9 @@
 // `load_save`, `save_data` and import on the bytes of a record.
 
-use c_record::LARGE;
 use c_record::RecordBytes;
 use c_record::is_record;
 use c_record::kind_in;
+use c_record::layout;
 use c_record::put_large;
 use file_calls::file_length;
 use file_calls::large_after;
@@ -30,7 +30,7 @@ fn load_valid(cart: &mut RecordBytes, memory: &mut [u8], file: &[u8])
         ≡ plain (left (accepted (loadSave (now (file .entry))) []
         (stateOf (now (cart .entry)) (now (memory .entry))))) ⌝ }
 {
-    let large = cart[LARGE] == 1;
+    let large = cart[layout::LARGE] == 1;
     let next = large_after(kind_in(cart), large, file.len());
     put_large(cart, large, next);
     apply(Store::File, file, memory);
@@ -64,7 +64,7 @@ pub fn save_data(cart: &RecordBytes, memory: &[u8], destination: &mut [u8], leng
     if memory.len() != memory_size(kind) {
         return 3;
     }
-    let n = file_length(kind, cart[LARGE] == 1);
+    let n = file_length(kind, cart[layout::LARGE] == 1);
     if destination.len() < n {
         return 13;
     }

@@ -122,7 +122,7 @@ record-spelled c k d b e f g =
     (ap (λ (l : List ℕ). c .len % 256 ∷ c .len / 256 % 256 ∷ c .len / 65536 % 256 ∷ c .len / 16777216 % 256 ∷ k ∷ d ∷ l) (sym s)))
 
 -- bytes of which question 2 is answered yes
-are-bytes : (l : List ℕ) → ((i : ℕ) → getD l i 0 < 256) → areBytes l ≡ true
+pub are-bytes : (l : List ℕ) → ((i : ℕ) → getD l i 0 < 256) → areBytes l ≡ true
 are-bytes [] h = refl
 are-bytes (b ∷ l) h = rw (lt-ltb b 256 (h 0), are-bytes l (λ i. h (suc i)))
 

@@ -1,4 +1,5 @@
--- What a C call leaves: "A no returns the number, the record as given, all buffers unchanged", and 24 bytes that are no record are 2.
+-- What a C call leaves: "A no returns the number, the record as given, all buffers unchanged", and 24 bytes that
+-- are no record are 2.
 use mathlib.Core.Bool.{Bool, false, cond}
 use mathlib.Core.List.{List, []}
 use Prim.Native.Nat.{ℕ}
@@ -39,7 +40,8 @@ untouched number d r m =
 unfoldable pub called : (State → Outcome) → List ℕ → List ℕ → List ℕ → AtExit
 called call d r m = cond (isRecord r) (left (call (stateOf r m))) (untouched 2 d r m)
 
--- what a caller sees: record and memory; with a place for one number, for the flag, or for the state's bytes; with a destination
+-- what a caller sees: record and memory; with a place for one number, for the flag, or for the state's bytes; with
+-- a destination
 abbrev pub plain : AtExit → ℕ × List ℕ × List ℕ
 plain x = (x .answer, x .bytes, x .memory)
 

@@ -39,7 +39,8 @@ cartOf r =
       chip = chipOf (drop chipAt r);
     }
 
--- 2: "Is the record's image length in that range and each chip field allowed?"; kind and flag are some kind's number, and 0 or 1
+-- 2: "Is the record's image length in that range and each chip field allowed?"; kind and flag are some kind's
+-- number, and 0 or 1
 unfoldable pub isRecord : List ℕ → Bool
 isRecord r =
     eqb (length r) recordSize

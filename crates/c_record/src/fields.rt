@@ -1,9 +1,5 @@
 // What a call needs of a record's bytes.
-use crate::layout::BANK;
-use crate::layout::CHIP;
-use crate::layout::FLASH_STATE;
-use crate::layout::ID_MODE;
-use crate::layout::KIND;
+use crate::layout;
 use crate::layout::RecordBytes;
 use cart::chip_of;
 use eeprom::Eeprom;
@@ -13,7 +9,7 @@ use kind::kind_of;
 use lists::low32;
 ghost use mathlib.Core.Path.{_≡_};
 ghost use lib.ListN.{length};
-ghost use Rattle.c_record.specs.RecordBytes.{cartOf};
+ghost use Rattle.c_record.specs.RecordBytes.{recordSize, cartOf};
 
 pub fn len_in(cart: &RecordBytes) -> usize
     ensures { λ n. ⌜ n ≡ cartOf (now (cart .entry)) .len ⌝ }
@@ -24,24 +20,24 @@ pub fn len_in(cart: &RecordBytes) -> usize
 pub fn kind_in(cart: &RecordBytes) -> SaveType
     ensures { λ k. ⌜ k ≡ cartOf (now (cart .entry)) .kind ⌝ }
 {
-    kind_of(cart[KIND])
+    kind_of(cart[layout::KIND])
 }
 
 pub fn flash_in(cart: &RecordBytes) -> Flash
     ensures { λ f. ⌜ f ≡ cartOf (now (cart .entry)) .chip .flash ⌝ }
 {
     Flash {
-        state: cart[FLASH_STATE],
-        bank: cart[BANK],
-        id: cart[ID_MODE] == 1,
+        state: cart[layout::FLASH_STATE],
+        bank: cart[layout::BANK],
+        id: cart[layout::ID_MODE] == 1,
     }
 }
 
 fn eeprom_of(bytes: &[u8]) -> Eeprom
-    requires { ⌜ length (now bytes) ≡ 24 ⌝ }
+    requires { ⌜ length (now bytes) ≡ recordSize ⌝ }
     ensures { λ e. ⌜ e ≡ cartOf (now (bytes .entry)) .chip .eeprom ⌝ }
 {
-    let chip = chip_of(&bytes[CHIP..]);
+    let chip = chip_of(&bytes[layout::CHIP..]);
     chip.eeprom
 }
 

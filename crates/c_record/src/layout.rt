@@ -1,4 +1,5 @@
 // The bytes of a cartridge record: how many they are, and where each field is.
+use cart::layout;
 
 pub const RECORD_SIZE: usize = 24;
 
@@ -14,22 +15,22 @@ pub const DIRTY: usize = 5;
 // the chip record, as `chip_state` writes it
 pub const CHIP: usize = 6;
 
-pub const FLASH_STATE: usize = CHIP + cart::FLASH_STATE;
+pub const FLASH_STATE: usize = CHIP + layout::FLASH_STATE;
 
-pub const BANK: usize = CHIP + cart::BANK;
+pub const BANK: usize = CHIP + layout::BANK;
 
-pub const ID_MODE: usize = CHIP + cart::ID_MODE;
+pub const ID_MODE: usize = CHIP + layout::ID_MODE;
 
-pub const WIDTH: usize = CHIP + cart::WIDTH;
+pub const WIDTH: usize = CHIP + layout::WIDTH;
 
-pub const LARGE: usize = CHIP + cart::LARGE;
+pub const LARGE: usize = CHIP + layout::LARGE;
 
-pub const PHASE: usize = CHIP + cart::PHASE;
+pub const PHASE: usize = CHIP + layout::PHASE;
 
-pub const COUNT: usize = CHIP + cart::COUNT;
+pub const COUNT: usize = CHIP + layout::COUNT;
 
-pub const BLOCK: usize = CHIP + cart::BLOCK;
+pub const BLOCK: usize = CHIP + layout::BLOCK;
 
-pub const PLACE: usize = CHIP + cart::PLACE;
+pub const PLACE: usize = CHIP + layout::PLACE;
 
-pub const ACC: usize = CHIP + cart::ACC;
+pub const ACC: usize = CHIP + layout::ACC;

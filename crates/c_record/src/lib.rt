@@ -1,7 +1,7 @@
 // The cartridge record as a C program holds it: question 2 asked of its bytes, and each chip's fields in and out.
 
 mod fields;
-mod layout;
+pub mod layout;
 mod outward;
 
 use cart::field_questions;
@@ -10,22 +10,7 @@ pub use fields::flash_in;
 pub use fields::kind_in;
 pub use fields::len_in;
 use image::image_length;
-pub use layout::ACC;
-pub use layout::BANK;
-pub use layout::BLOCK;
-pub use layout::CHIP;
-pub use layout::COUNT;
-pub use layout::DIRTY;
-pub use layout::FLASH_STATE;
-pub use layout::ID_MODE;
-pub use layout::KIND;
-pub use layout::LARGE;
-pub use layout::LENGTH;
-pub use layout::PHASE;
-pub use layout::PLACE;
-pub use layout::RECORD_SIZE;
 pub use layout::RecordBytes;
-pub use layout::WIDTH;
 use lists::low32;
 pub use outward::put_eeprom;
 pub use outward::put_ended;
@@ -39,24 +24,24 @@ pub use outward::record_bytes;
 ghost use mathlib.Core.Path.{_≡_};
 ghost use mathlib.Core.Bool.{true};
 ghost use lib.ListN.{length};
-ghost use Rattle.c_record.specs.RecordBytes.{isRecord, Valid};
+ghost use Rattle.c_record.specs.RecordBytes.{recordSize, isRecord, Valid};
 
 // Question 2, of bytes.
 fn valid(bytes: &[u8]) -> bool
-    requires { ⌜ length (now bytes) ≡ 24 ⌝ }
+    requires { ⌜ length (now bytes) ≡ recordSize ⌝ }
     ensures { λ b. ⌜ b ≡ isRecord (now (bytes .entry)) ⌝ }
     ensures { λ _. ⌜ (isRecord (now (bytes .entry)) ≡ true → Valid (now (bytes .entry))) ⌝ }
 {
-    if 5 < bytes[KIND] {
+    if 5 < bytes[layout::KIND] {
         return false;
     }
-    if 1 < bytes[DIRTY] {
+    if 1 < bytes[layout::DIRTY] {
         return false;
     }
     if !image_length(low32(bytes[0], bytes[1], bytes[2], bytes[3]) as usize) {
         return false;
     }
-    field_questions(&bytes[CHIP..]) == 0
+    field_questions(&bytes[layout::CHIP..]) == 0
 }
 
 pub fn is_record(cart: &RecordBytes) -> bool

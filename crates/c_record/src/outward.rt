@@ -1,16 +1,6 @@
 // What a call changes of a record's bytes, and nothing else: a record that is written whole costs more than most calls.
-use crate::layout::ACC;
-use crate::layout::BANK;
-use crate::layout::BLOCK;
-use crate::layout::COUNT;
-use crate::layout::DIRTY;
-use crate::layout::FLASH_STATE;
-use crate::layout::ID_MODE;
-use crate::layout::LARGE;
-use crate::layout::PHASE;
-use crate::layout::PLACE;
+use crate::layout;
 use crate::layout::RecordBytes;
-use crate::layout::WIDTH;
 use cart::Cartridge;
 use cart::bit;
 use cart::chip_bytes;
@@ -23,7 +13,7 @@ ghost use mathlib.Core.Bool.{cond};
 ghost use Prim.Native.Nat.{_<_};
 ghost use lib.ListN.{getD, set};
 ghost use Rattle.cart.specs.ChipState.{bit as bit·spec};
-ghost use Rattle.c_record.specs.RecordBytes.{recordBytes};
+ghost use Rattle.c_record.specs.RecordBytes.{recordSize, recordBytes};
 ghost use Rattle.c_record.specs.Fields.{idAt, largeAt, withFlash, withId, withWidth, withLarge};
 ghost use Rattle.c_record.specs.Fields.{withAcc, withShift, withPlace, withEnded, withSerial};
 
@@ -36,19 +26,20 @@ fn flag_after(sets: bool, flag: u8) -> u8
     flag
 }
 
-// The flash chip but for its ID mode, and the flag. Stored also where they stay: tests in front of the stores cost more.
+// The flash chip but for its ID mode, and the flag. Stored also where they stay: tests in front of the stores cost
+// more.
 pub fn put_flash(cart: &mut RecordBytes, sets: bool, flash: Flash)
     ensures { λ _. ⌜ now (cart .exit) ≡ withFlash (now (cart .entry)) sets flash ⌝ }
 {
-    let flag = cart[DIRTY];
-    cart[FLASH_STATE] = flash.state;
-    cart[BANK] = flash.bank;
-    cart[DIRTY] = flag_after(sets, flag);
+    let flag = cart[layout::DIRTY];
+    cart[layout::FLASH_STATE] = flash.state;
+    cart[layout::BANK] = flash.bank;
+    cart[layout::DIRTY] = flag_after(sets, flag);
 }
 
 // A flag byte that is stored only where it changes: a store would delay the next call's wide load of it.
 fn put_bit(cart: &mut RecordBytes, at: usize, was: bool, is: bool)
-    requires { ⌜ (at < 24) × (getD (now cart) at 0 ≡ bit·spec was) ⌝ }
+    requires { ⌜ (at < recordSize) × (getD (now cart) at 0 ≡ bit·spec was) ⌝ }
     ensures { λ _. ⌜ now (cart .exit) ≡ set (now (cart .entry)) at (bit·spec is) ⌝ }
 {
     if was {
@@ -68,42 +59,42 @@ pub fn put_id(cart: &mut RecordBytes, was: bool, id: bool)
     requires { ⌜ getD (now cart) idAt 0 ≡ bit·spec was ⌝ }
     ensures { λ _. ⌜ now (cart .exit) ≡ withId (now (cart .entry)) id ⌝ }
 {
-    put_bit(cart, ID_MODE, was, id);
+    put_bit(cart, layout::ID_MODE, was, id);
 }
 
 pub fn put_large(cart: &mut RecordBytes, was: bool, large: bool)
     requires { ⌜ getD (now cart) largeAt 0 ≡ bit·spec was ⌝ }
     ensures { λ _. ⌜ now (cart .exit) ≡ withLarge (now (cart .entry)) large ⌝ }
 {
-    put_bit(cart, LARGE, was, large);
+    put_bit(cart, layout::LARGE, was, large);
 }
 
 // What a DMA announcement tells.
 pub fn put_width(cart: &mut RecordBytes, width: u8, large: bool)
     ensures { λ _. ⌜ now (cart .exit) ≡ withWidth (now (cart .entry)) width large ⌝ }
 {
-    cart[WIDTH] = width;
-    cart[LARGE] = bit(large);
+    cart[layout::WIDTH] = width;
+    cart[layout::LARGE] = bit(large);
 }
 
 fn put_acc(cart: &mut RecordBytes, acc: u64)
     ensures { λ _. ⌜ now (cart .exit) ≡ withAcc (now (cart .entry)) acc ⌝ }
 {
-    cart[ACC] = (acc % 256) as u8;
-    cart[ACC + 1] = ((acc >> 8) % 256) as u8;
-    cart[ACC + 2] = ((acc >> 16) % 256) as u8;
-    cart[ACC + 3] = ((acc >> 24) % 256) as u8;
-    cart[ACC + 4] = ((acc >> 32) % 256) as u8;
-    cart[ACC + 5] = ((acc >> 40) % 256) as u8;
-    cart[ACC + 6] = ((acc >> 48) % 256) as u8;
-    cart[ACC + 7] = ((acc >> 56) % 256) as u8;
+    cart[layout::ACC] = (acc % 256) as u8;
+    cart[layout::ACC + 1] = ((acc >> 8) % 256) as u8;
+    cart[layout::ACC + 2] = ((acc >> 16) % 256) as u8;
+    cart[layout::ACC + 3] = ((acc >> 24) % 256) as u8;
+    cart[layout::ACC + 4] = ((acc >> 32) % 256) as u8;
+    cart[layout::ACC + 5] = ((acc >> 40) % 256) as u8;
+    cart[layout::ACC + 6] = ((acc >> 48) % 256) as u8;
+    cart[layout::ACC + 7] = ((acc >> 56) % 256) as u8;
 }
 
 // A bit shifted in that more follow.
 pub fn put_shift(cart: &mut RecordBytes, count: u8, acc: u64)
     ensures { λ _. ⌜ now (cart .exit) ≡ withShift (now (cart .entry)) count acc ⌝ }
 {
-    cart[COUNT] = count;
+    cart[layout::COUNT] = count;
     put_acc(cart, acc);
 }
 
@@ -111,16 +102,16 @@ pub fn put_shift(cart: &mut RecordBytes, count: u8, acc: u64)
 pub fn put_place(cart: &mut RecordBytes, place: u8)
     ensures { λ _. ⌜ now (cart .exit) ≡ withPlace (now (cart .entry)) place ⌝ }
 {
-    cart[PLACE] = place;
+    cart[layout::PLACE] = place;
 }
 
 // A read is over: phase, count, read place and acc are 0.
 pub fn put_ended(cart: &mut RecordBytes)
     ensures { λ _. ⌜ now (cart .exit) ≡ withEnded (now (cart .entry)) ⌝ }
 {
-    cart[PHASE] = 0;
-    cart[COUNT] = 0;
-    cart[PLACE] = 0;
+    cart[layout::PHASE] = 0;
+    cart[layout::COUNT] = 0;
+    cart[layout::PLACE] = 0;
     put_acc(cart, 0);
 }
 
@@ -129,16 +120,16 @@ pub fn put_eeprom(cart: &mut RecordBytes, sets: bool, e: Eeprom)
     ensures { λ _. ⌜ now (cart .exit) ≡ withSerial (now (cart .entry)) sets e ⌝ }
 {
     let phase = e.phase;
-    let flag = cart[DIRTY];
-    cart[WIDTH] = e.width;
-    cart[LARGE] = bit(e.large);
-    cart[PHASE] = phase_number(phase);
-    cart[COUNT] = e.count;
-    cart[BLOCK] = (e.block % 256) as u8;
-    cart[BLOCK + 1] = (e.block / 256) as u8;
-    cart[PLACE] = e.place;
+    let flag = cart[layout::DIRTY];
+    cart[layout::WIDTH] = e.width;
+    cart[layout::LARGE] = bit(e.large);
+    cart[layout::PHASE] = phase_number(phase);
+    cart[layout::COUNT] = e.count;
+    cart[layout::BLOCK] = (e.block % 256) as u8;
+    cart[layout::BLOCK + 1] = (e.block / 256) as u8;
+    cart[layout::PLACE] = e.place;
     put_acc(cart, e.acc);
-    cart[DIRTY] = flag_after(sets, flag);
+    cart[layout::DIRTY] = flag_after(sets, flag);
 }
 
 pub fn record_bytes(cart: Cartridge) -> RecordBytes

@@ -1,5 +1,6 @@
-// `eeprom_begin_dma`, `eeprom_write` and `eeprom_read` on the bytes of a record. In front of question 2 is the quick test; a function `_any` is
-// for every record. It is called last and at two places, so that the compiler leaves it out of line and the quick way pays nothing for it.
+// `eeprom_begin_dma`, `eeprom_write` and `eeprom_read` on the bytes of a record. In front of question 2 is the
+// quick test; a function `_any` is for every record. It is called last and at two places, so that the compiler
+// leaves it out of line and the quick way pays nothing for it.
 use c_record::RecordBytes;
 use c_record::eeprom_in;
 use c_record::is_record;

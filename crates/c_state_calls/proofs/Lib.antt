@@ -1,2 +1,2 @@
 pub mod StateCalls
-pub mod QuickState
+pub mod ValueCalls

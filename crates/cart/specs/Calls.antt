@@ -64,7 +64,8 @@ readSave kind s a = readByte kind (s .cart .chip .flash) (s .memory) a
 unfoldable pub writeSave : SaveType → State → ℕ → ℕ → State
 writeSave kind s a v = withFlash s (afterWrite kind (flashOf s) a v)
 
--- Files (`load_save`): "memory FFh, then the file's first bytes; longer than 512 on EEPROM sets large; None ignores it. The flag stays."
+-- Files (`load_save`): "memory FFh, then the file's first bytes; longer than 512 on EEPROM sets large; None ignores
+-- it. The flag stays."
 abbrev pub largeAfter : SaveType → Bool → ℕ → Bool
 largeAfter kind large fileLength = large || usesEeprom kind && ltb 512 fileLength
 
@@ -139,7 +140,8 @@ restoreQuestions b s = question2 s ∷ stateQuestions b
 unfoldable pub restore : List ℕ → State → Outcome
 restore b s = guarded (restoreQuestions b s) [] s (outcome [] (stateWith s (s .cart .dirty) (chipOf b) (s .memory)) [])
 
--- 14: "is the file's length one that `save_fit` takes for the record's kind?"; "import itself loads that part and answers its length"
+-- 14: "is the file's length one that `save_fit` takes for the record's kind?"; "import itself loads that part and
+-- answers its length"
 abbrev pub importQuestions : List ℕ → State → List Question
 importQuestions f s = question2 s ∷ question3 s ∷ taken (saveFit (s .cart .kind) (length f)) else 14 ∷ []
 

@@ -21,7 +21,8 @@ unfoldable pub phaseOf : ℕ → EepromPhase
 phaseOf n =
     cond (eqb n 0) Opcode
     (cond (eqb n 1) ReadAddress
-    (cond (eqb n 2) WriteAddress (cond (eqb n 3) WriteData (cond (eqb n 4) ReadStop (cond (eqb n 5) WriteStop Reading)))))
+    (cond (eqb n 2) WriteAddress
+    (cond (eqb n 3) WriteData (cond (eqb n 4) ReadStop (cond (eqb n 5) WriteStop Reading)))))
 
 abbrev pub bit : Bool → ℕ
 bit b = cond b 1 0
@@ -49,8 +50,8 @@ chipOf b =
           };
     }
 
--- 6: "Phase allowed? 7. Flash state? 8. Bytes 1, 2, 4? 9. Width? 10. Count at most 64, block and read place allowed? 11. Count allowed
--- for its phase? 12.": the fields, whose bytes question 2 asks about as well
+-- 6: "Phase allowed? 7. Flash state? 8. Bytes 1, 2, 4? 9. Width? 10. Count at most 64, block and read place
+-- allowed? 11. Count allowed for its phase? 12.": the fields, whose bytes question 2 asks about as well
 unfoldable pub fieldQuestions : List ℕ → List Question
 fieldQuestions b =
     leb (getD b 5 0) 6 else 7

@@ -9,7 +9,8 @@ use Rattle.kind.specs.Kind.{usesEeprom, detectSaveType}
 use Rattle.cart.specs.Record.{State, Outcome, fromBytes}
 use Rattle.cart.specs.Calls.{Call, saveWrite, loadSave, saveData, chipState, step, restore}
 
--- "it leaves the file that an accepted export gives there, where the kind has one": from a destination as long as the memory
+-- "it leaves the file that an accepted export gives there, where the kind has one": from a destination as long as
+-- the memory
 abbrev pub fileIn : List ℕ → List ℕ → Option (List ℕ)
 fileIn [] d = none
 fileIn (n ∷ l) d = some (take n d)
@@ -39,8 +40,9 @@ pub record Turn : Type 0 where
   pub destination : List ℕ
   pub cutsBehind : ℕ
 
--- "Compared are the answers of the list's own calls, with refusal numbers and the bytes of export destinations, and at the list's end
--- the file, or that there is none, and the 18 bytes. Left out are the answer of `take_save_dirty` and the flag in the records."
+-- "Compared are the answers of the list's own calls, with refusal numbers and the bytes of export destinations, and
+-- at the list's end the file, or that there is none, and the 18 bytes. Left out are the answer of `take_save_dirty`
+-- and the flag in the records."
 pub record Shown : Type 0 where
   pub refusal : ℕ
   pub given : List ℕ
@@ -69,10 +71,12 @@ run image memory (t ∷ list) s =
 abbrev pub uncut : List Turn → List Turn
 uncut = map (λ t. record { call = t .call; destination = t .destination; cutsBehind = 0 })
 
--- demand 3: from a fresh cartridge, with "no byte write to an EEPROM cartridge"; "It is one claim about the whole list with all its cuts."
+-- demand 3: from a fresh cartridge, with "no byte write to an EEPROM cartridge"; "It is one claim about the whole
+-- list with all its cuts."
 abbrev pub CutRuns : Type 0
 CutRuns =
     (image memory : List ℕ) (list : List Turn)
     → fromBytes image memory .refusal ≡ 0
     → ((a v : ℕ) → List·Memᴰ (saveWrite a v) (map (λ t. t .call) list) → usesEeprom (detectSaveType image) ≡ false)
-    → run image memory list (fromBytes image memory .next) ≡ run image memory (uncut list) (fromBytes image memory .next)
+    → run image memory list (fromBytes image memory .next)
+    ≡ run image memory (uncut list) (fromBytes image memory .next)

@@ -60,21 +60,24 @@ pub data FlashPart : SaveType → ℕ → Type 0 where
 abbrev pub writes : List Write → List Call
 writes = map (λ w. saveWrite (w .address) (w .value))
 
--- every list of writes is accepted and does what it does to the chip; a byte read shows what the chip shows; where the chip awaits a
--- command, `does` has what each command does to it, and a read gives what the last write stored
+-- every list of writes is accepted and does what it does to the chip; a byte read shows what the chip shows; where
+-- the chip awaits a command, `does` has what each command does to it, and a read gives what the last write stored
 pub record FlashCommands (word : ℕ) (s : State) : Type 0 where
   pub accepts : (ws : List Write) → calls (writes ws) s ≡ ran [] (withFlash s (written ws (flashOf s)))
   pub shows : (a : ℕ) → calls (saveRead a ∷ []) s ≡ ran (flashRead word (s .cart .chip .flash) (s .memory) a ∷ []) s
   pub does : s .cart .chip .flash .state ≡ 0 → flash.Commands (flashOf s)
-  pub programRead : s .cart .chip .flash .state ≡ 0 → s .cart .chip .flash .id ≡ false → (a v c : ℕ) → a < 65536 → c < 65536
-      → calls (writes (program a v) ++ (saveRead (bus c) ∷ [])) s .given ≡ cond (eqb c a) v (getD (s .memory) (base (flashOf s) + c) 0) ∷ []
+  pub programRead : s .cart .chip .flash .state ≡ 0 → s .cart .chip .flash .id ≡ false
+      → (a v c : ℕ) → a < 65536 → c < 65536
+      → calls (writes (program a v) ++ (saveRead (bus c) ∷ [])) s .given
+      ≡ cond (eqb c a) v (getD (s .memory) (base (flashOf s) + c) 0) ∷ []
 
 -- serial EEPROM: every list of bits in, and any number of bits out, is accepted and does what it does to the chip
 pub record SerialBits (s : State) : Type 0 where
   pub accepts : (vs : List ℕ) → calls (map eepromWrite vs) s ≡ ran [] (withEeprom s (fed vs (eepromOf s)))
   pub gives : (n : ℕ) → calls (replicate n eepromRead) s
       ≡ ran (drawn n (s .cart .chip .eeprom) (s .memory)) (withChip s (drained n (s .cart .chip .eeprom)))
-  pub idle : s .cart .chip .eeprom .phase ≡ Opcode → s .cart .chip .eeprom .count ≡ 0 → eeprom.Idle (s .cart .chip .eeprom)
+  pub idle : s .cart .chip .eeprom .phase ≡ Opcode → s .cart .chip .eeprom .count ≡ 0
+      → eeprom.Idle (s .cart .chip .eeprom)
 
 -- a command by DMA: the announcement of its halfwords, then its bits; "68 bits come out"
 abbrev pub write : ℕ → ℕ → ℕ → List Call
@@ -86,19 +89,27 @@ read w block = (eepromBeginDma (w + 3) ∷ map eepromWrite (setAddress w block))
 -- the state behind a command: the flag, the halfwords told, the block named, the read place left, the memory
 abbrev pub behind : State → Bool → ℕ → ℕ → ℕ → List ℕ → State
 behind s dirty words block place memory =
-    withEeprom s (record { chip = serial (beginDma words (s .cart .chip .eeprom)) Opcode 0 block place 0; memory = memory; dirty = dirty })
+    let e = beginDma words (s .cart .chip .eeprom) in
+    withEeprom s (record { chip = serial e Opcode 0 block place 0; memory = memory; dirty = dirty })
+
+-- the memory with a data word in a block
+abbrev pub withWord : List ℕ → ℕ → ℕ → List ℕ
+withWord m block word = withPart m (8 * block) (digits 256 8 word)
 
 -- of a chip that awaits a command, at either width
 pub record SerialCommands (w : ℕ) (s : State) : Type 0 where
   pub writes : (block word : ℕ) → block < 2 ^ w → word < 2 ^ 64
       → calls (write w block word) s
-      ≡ ran [] (behind s true (w + 67) (block % 1024) (s .cart .chip .eeprom .place) (withPart (s .memory) (8 * (block % 1024)) (digits 256 8 word)))
+      ≡ ran []
+      (behind s true (w + 67) (block % 1024) (s .cart .chip .eeprom .place) (withWord (s .memory) (block % 1024) word))
   pub reads : (block : ℕ) → block < 2 ^ w
       → calls (read w block) s
-      ≡ ran (readOut (blockOf (s .memory) (block % 1024))) (behind s (s .cart .dirty) (w + 3) (block % 1024) 0 (s .memory))
+      ≡ ran (readOut (blockOf (s .memory) (block % 1024)))
+      (behind s (s .cart .dirty) (w + 3) (block % 1024) 0 (s .memory))
   -- a read gives what the last write stored, and other blocks are untouched
   pub writeRead : (block word other : ℕ) → block < 2 ^ w → word < 2 ^ 64 → other < 2 ^ w
       → calls (write w block word ++ read w other) s .given
-      ≡ replicate 4 0 ++ cond (eqb (block % 1024) (other % 1024)) (bits 64 word) (bitsOfBytes (blockOf (s .memory) (other % 1024)))
+      ≡ replicate 4 0 ++ cond (eqb (block % 1024) (other % 1024)) (bits 64 word) (bitsOfBytes (blockOf (s .memory)
+      (other % 1024)))
   -- "reading then gives .. 1 when ready"
   pub ready : calls (eepromRead ∷ []) s ≡ ran (1 ∷ []) s

@@ -20,8 +20,8 @@ pub record State : Type 0 where
   pub cart : Cartridge
   pub memory : List ℕ
 
--- what a call returns and leaves: the number of a refusal or 0, the numbers that it answers, the answer of `take_save_dirty`,
--- record and memory, and the destination that it was lent
+-- what a call returns and leaves: the number of a refusal or 0, the numbers that it answers, the answer of
+-- `take_save_dirty`, record and memory, and the destination that it was lent
 pub record Outcome : Type 0 where
   pub refusal : ℕ
   pub given : List ℕ
@@ -78,7 +78,8 @@ freshCart n kind = record { len = n; kind = kind; dirty = false; chip = freshChi
 -- Open (`from_bytes`): "Memory all FFh"; "A fresh cartridge is what an accepted opening gives."
 unfoldable pub fresh : List ℕ → State
 fresh image =
-    record { cart = freshCart (length image) (detectSaveType image); memory = erased (memorySize (detectSaveType image)) }
+    let kind = detectSaveType image in
+    record { cart = freshCart (length image) kind; memory = erased (memorySize kind) }
 
 -- "opening, given none, returns one of kind None with all else 0"
 abbrev pub openQuestions : List ℕ → List ℕ → List Question
@@ -86,4 +87,5 @@ openQuestions image memory = imageQuestion image ∷ memoryQuestion (detectSaveT
 
 unfoldable pub fromBytes : List ℕ → List ℕ → Outcome
 fromBytes image memory =
-    guarded (openQuestions image memory) [] (record { cart = freshCart 0 None; memory = memory }) (outcome [] (fresh image) [])
+    let none : State = record { cart = freshCart 0 None; memory = memory } in
+    guarded (openQuestions image memory) [] none (outcome [] (fresh image) [])

@@ -1,5 +1,5 @@
--- How a call returns what the machine answers: a refusal's number or 0, one number or 0, and the record; what it is lent is left as the
--- machine leaves it.
+-- How a call returns what the machine answers: a refusal's number or 0, one number or 0, and the record; what it is
+-- lent is left as the machine leaves it.
 use mathlib.Core.Bool.{Bool}
 use mathlib.Core.List.{List, [], _∷_}
 use Prim.Native.Nat.{ℕ}

@@ -1,6 +1,6 @@
 // The cartridge: its records, their 18 bytes, the questions at the door, and in specs/ the machine of document 01.
 
-mod layout;
+pub mod layout;
 mod questions;
 mod state_bytes;
 
@@ -8,18 +8,8 @@ use eeprom::Eeprom;
 use eeprom::EepromPhase;
 use flash::Flash;
 use kind::SaveType;
-pub use layout::ACC;
-pub use layout::BANK;
-pub use layout::BLOCK;
-pub use layout::COUNT;
-pub use layout::FLASH_STATE;
-pub use layout::ID_MODE;
-pub use layout::LARGE;
-pub use layout::PHASE;
-pub use layout::PLACE;
 pub use layout::STATE_SIZE;
 pub use layout::StateBytes;
-pub use layout::WIDTH;
 pub use questions::door;
 pub use questions::record_allowed;
 pub use state_bytes::chip_bytes;

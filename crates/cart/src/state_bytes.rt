@@ -1,18 +1,8 @@
 // The chip record as bytes.
 use crate::ChipRecord;
 use crate::bit;
-use crate::layout::ACC;
-use crate::layout::BANK;
-use crate::layout::BLOCK;
-use crate::layout::COUNT;
-use crate::layout::FLASH_STATE;
-use crate::layout::ID_MODE;
-use crate::layout::LARGE;
-use crate::layout::PHASE;
-use crate::layout::PLACE;
-use crate::layout::STATE_SIZE;
+use crate::layout;
 use crate::layout::StateBytes;
-use crate::layout::WIDTH;
 use eeprom::Eeprom;
 use eeprom::EepromPhase;
 use eeprom::count_limit;
@@ -29,7 +19,7 @@ ghost use lib.Dec.{leb};
 ghost use lib.ListN.{length, drop};
 ghost use Rattle.lists.specs.Lists.{lowValue};
 ghost use Rattle.lists.specs.Questions.{asked};
-ghost use Rattle.cart.specs.ChipState.{phaseNumber, phaseOf, chipBytes, chipOf, fieldQuestions, stateQuestions};
+ghost use Rattle.cart.specs.ChipState.{phaseNumber, phaseOf, chipBytes, chipOf, stateSize, fieldQuestions, stateQuestions};
 
 pub fn phase_number(phase: EepromPhase) -> u8
     ensures { λ r. ⌜ r ≡ phaseNumber phase ⌝ }
@@ -89,33 +79,43 @@ pub fn chip_bytes(chip: ChipRecord) -> StateBytes
 
 // Bytes 10 to 17, low byte first.
 fn acc_of(b: &[u8]) -> u64
-    requires { ⌜ length (now b) ≡ 18 ⌝ }
+    requires { ⌜ length (now b) ≡ stateSize ⌝ }
     ensures { λ r. ⌜ r ≡ lowValue (drop 10 (now (b .entry))) ⌝ }
 {
     low64(
-        low32(b[ACC], b[ACC + 1], b[ACC + 2], b[ACC + 3]),
-        low32(b[ACC + 4], b[ACC + 5], b[ACC + 6], b[ACC + 7]),
+        low32(
+            b[layout::ACC],
+            b[layout::ACC + 1],
+            b[layout::ACC + 2],
+            b[layout::ACC + 3],
+        ),
+        low32(
+            b[layout::ACC + 4],
+            b[layout::ACC + 5],
+            b[layout::ACC + 6],
+            b[layout::ACC + 7],
+        ),
     )
 }
 
 // Decodes the bytes of a valid chip record.
 pub fn chip_of(b: &[u8]) -> ChipRecord
-    requires { ⌜ length (now b) ≡ 18 ⌝ }
+    requires { ⌜ length (now b) ≡ stateSize ⌝ }
     ensures { λ r. ⌜ r ≡ chipOf (now (b .entry)) ⌝ }
 {
     ChipRecord {
         flash: Flash {
-            state: b[FLASH_STATE],
-            bank: b[BANK],
-            id: b[ID_MODE] == 1,
+            state: b[layout::FLASH_STATE],
+            bank: b[layout::BANK],
+            id: b[layout::ID_MODE] == 1,
         },
         eeprom: Eeprom {
-            width: b[WIDTH],
-            large: b[LARGE] == 1,
-            phase: phase_of(b[PHASE]),
-            count: b[COUNT],
-            block: low16(b[BLOCK], b[BLOCK + 1]),
-            place: b[PLACE],
+            width: b[layout::WIDTH],
+            large: b[layout::LARGE] == 1,
+            phase: phase_of(b[layout::PHASE]),
+            count: b[layout::COUNT],
+            block: low16(b[layout::BLOCK], b[layout::BLOCK + 1]),
+            place: b[layout::PLACE],
             acc: acc_of(b),
         },
     }
@@ -123,25 +123,34 @@ pub fn chip_of(b: &[u8]) -> ChipRecord
 
 // Questions 7 to 12, about the fields: the first number that applies, or 0.
 pub fn field_questions(b: &[u8]) -> u8
-    requires { ⌜ length (now b) ≡ 18 ⌝ }
+    requires { ⌜ length (now b) ≡ stateSize ⌝ }
     ensures { λ r. ⌜ r ≡ asked (fieldQuestions (now (b .entry))) ⌝ }
 {
-    if 6 < b[PHASE] {
+    if 6 < b[layout::PHASE] {
         return 7;
     }
-    if !state_allowed(b[FLASH_STATE]) {
+    if !state_allowed(b[layout::FLASH_STATE]) {
         return 8;
     }
-    if !flags_allowed(b[BANK], b[ID_MODE], b[LARGE]) {
+    if !flags_allowed(b[layout::BANK], b[layout::ID_MODE], b[layout::LARGE]) {
         return 9;
     }
-    if !width_allowed(b[WIDTH]) {
+    if !width_allowed(b[layout::WIDTH]) {
         return 10;
     }
-    if !places_allowed(b[COUNT], low16(b[BLOCK], b[BLOCK + 1]), b[PLACE]) {
+    if !places_allowed(
+        b[layout::COUNT],
+        low16(b[layout::BLOCK], b[layout::BLOCK + 1]),
+        b[layout::PLACE],
+    ) {
         return 11;
     }
-    if b[COUNT] < count_limit(phase_of(b[PHASE]), w(b[WIDTH], b[LARGE] == 1)) {
+    if b[layout::COUNT]
+        < count_limit(
+            phase_of(b[layout::PHASE]),
+            w(b[layout::WIDTH], b[layout::LARGE] == 1),
+        )
+    {
         return 0;
     }
     12
@@ -175,7 +184,7 @@ fn places_allowed(count: u8, block: u16, place: u8) -> bool
 pub fn state_questions(b: &[u8]) -> u8
     ensures { λ r. ⌜ r ≡ asked (stateQuestions (now (b .entry))) ⌝ }
 {
-    if b.len() != STATE_SIZE {
+    if b.len() != layout::STATE_SIZE {
         return 6;
     }
     field_questions(b)

@@ -1,4 +1,5 @@
--- What is claimed of refused calls: "A no returns the number, the record as given, all buffers unchanged"; and of `save_fit`'s 0.
+-- What is claimed of refused calls: "A no returns the number, the record as given, all buffers unchanged"; and of
+-- `save_fit`'s 0.
 use mathlib.Core.Path.{_≡_}
 use mathlib.Core.Logic.{_≢_}
 use mathlib.Core.Bool.{true}

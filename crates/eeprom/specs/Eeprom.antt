@@ -145,7 +145,8 @@ turnedIn Reading e acc b = opcodeBit (ended e) b
 unfoldable pub turned : Eeprom → ℕ → ℕ → EepromStep
 turned e acc b = turnedIn (e .phase) e acc b
 
--- `eeprom_write` "takes b". "Opcode, Address, WriteData: .. At length 2, W or 64 .."; in each other phase one bit is all
+-- `eeprom_write` "takes b". "Opcode, Address, WriteData: .. At length 2, W or 64 .."; in each other phase one bit
+-- is all
 unfoldable pub writeBit : Eeprom → ℕ → EepromStep
 writeBit e b =
     let at : ℕ → EepromStep = λ length. shifted e (λ acc. turned e acc b) (shiftIn (e .acc) (e .count) length b) in

@@ -18,7 +18,8 @@ stateAllowed state = leb state 2 || leb 4 state && leb state 8
 unfoldable pub place : Flash → ℕ → ℕ → ℕ
 place f n address = (f .bank * 65536 + address % 65536) % n
 
--- "In ID mode an even address reads 32h (Flash64) or 62h (Flash128), an odd one 1Bh or 13h": the bytes of the part's ID word
+-- "In ID mode an even address reads 32h (Flash64) or 62h (Flash128), an odd one 1Bh or 13h": the bytes of the
+-- part's ID word
 unfoldable pub idByte : ℕ → ℕ → ℕ
 idByte word address = cond (eqb (address % 2) 0) (word % 256) (word / 256)
 

@@ -31,7 +31,8 @@ enterId = commandOf 0x90
 abbrev pub leaveId : List Write
 leaveId = commandOf 0xf0
 
--- "80h, then AAh, 55h again, then 10h at 0E005555h: erase the whole chip; or 30h at 0E00n000h: erase the 4 KiB sector n"
+-- "80h, then AAh, 55h again, then 10h at 0E005555h: erase the whole chip; or 30h at 0E00n000h: erase the 4 KiB
+-- sector n"
 abbrev pub eraseChip : List Write
 eraseChip = commandOf 0x80 ++ commandOf 0x10
 
@@ -66,7 +67,8 @@ abbrev pub base : Held Flash → ℕ
 base x = 65536 * x .chip .bank % length (x .memory)
 
 abbrev pub idleChip : ℕ → Bool → List ℕ → Bool → Held Flash
-idleChip bank id memory dirty = record { chip = record { state = 0; bank = bank; id = id }; memory = memory; dirty = dirty }
+idleChip bank id memory dirty =
+    record { chip = record { state = 0; bank = bank; id = id }; memory = memory; dirty = dirty }
 
 -- what each command does
 pub record Commands (x : Held Flash) : Type 0 where
@@ -74,15 +76,23 @@ pub record Commands (x : Held Flash) : Type 0 where
   pub leavesId : written leaveId x ≡ idleChip (x .chip .bank) false (x .memory) (x .dirty)
   pub erases : written eraseChip x ≡ idleChip (x .chip .bank) (x .chip .id) (erased (length (x .memory))) true
   pub erasesSector : (n : ℕ) → n < 16
-      → written (eraseSector n) x ≡ idleChip (x .chip .bank) (x .chip .id) (withPart (x .memory) (base x + 4096 * n) (erased 4096)) true
+      → written (eraseSector n) x
+      ≡ idleChip (x .chip .bank) (x .chip .id) (withPart (x .memory) (base x + 4096 * n) (erased 4096)) true
   -- the sector's bytes, and no other
   pub sectorBytes : (n p : ℕ) → n < 16
-      → getD (written (eraseSector n) x .memory) p 0 ≡ cond (leb (base x + 4096 * n) p && ltb p (base x + 4096 * n + 4096)) 0xff (getD (x .memory) p 0)
+      → getD (written (eraseSector n) x .memory) p 0
+      ≡ cond (leb (base x + 4096 * n) p && ltb p (base x + 4096 * n + 4096)) 0xff (getD (x .memory) p 0)
   -- case (i): AAh, 55h, 80h, 30h, without the second unlock
-  pub spares : (p q r t : ℕ) → written (write p 0xaa ∷ write q 0x55 ∷ write r 0x80 ∷ write t 0x30 ∷ []) x ≡ idleChip (x .chip .bank) (x .chip .id) (x .memory) (x .dirty)
-  pub programs : (a v : ℕ) → a < 65536 → written (program a v) x ≡ idleChip (x .chip .bank) (x .chip .id) (set (x .memory) (base x + a) v) true
+  pub spares : (p q r t : ℕ)
+      → written (write p 0xaa ∷ write q 0x55 ∷ write r 0x80 ∷ write t 0x30 ∷ []) x
+      ≡ idleChip (x .chip .bank) (x .chip .id) (x .memory) (x .dirty)
+  pub programs : (a v : ℕ) → a < 65536
+      → written (program a v) x
+      ≡ idleChip (x .chip .bank) (x .chip .id) (set (x .memory) (base x + a) v) true
   pub selects : (b : ℕ) → b < 2 → written (selectBank b) x ≡ idleChip b (x .chip .id) (x .memory) (x .dirty)
   -- "0E000000h reads the maker and 0E000001h the device" of the ID word
-  pub shows : (word a : ℕ) → a < 65536 → x .chip .id ≡ false → flashRead word (x .chip) (x .memory) (0x0e000000 + a) ≡ getD (x .memory) (base x + a) 0
+  pub shows : (word a : ℕ) → a < 65536 → x .chip .id ≡ false
+      → flashRead word (x .chip) (x .memory) (0x0e000000 + a) ≡ getD (x .memory) (base x + a) 0
   pub identifies : (maker device : ℕ) → maker < 256 → x .chip .id ≡ true
-      → (flashRead (maker + 256 * device) (x .chip) (x .memory) 0x0e000000 ≡ maker) × (flashRead (maker + 256 * device) (x .chip) (x .memory) 0x0e000001 ≡ device)
+      → (flashRead (maker + 256 * device) (x .chip) (x .memory) 0x0e000000 ≡ maker)
+      × (flashRead (maker + 256 * device) (x .chip) (x .memory) 0x0e000001 ≡ device)

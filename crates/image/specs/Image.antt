@@ -30,7 +30,8 @@ refused n = record { refusal = n; value = 0 }
 abbrev pub answered : List Question → ℕ → Answer
 answered qs v = cond (eqb (asked qs) 0) (accepted v) (refused (asked qs))
 
--- `read`, `read16`, `read32` have 1, 2, 4 bytes: "little end first, 0 past the image and past FFFFFFFFh", where no accepted image reaches
+-- `read`, `read16`, `read32` have 1, 2, 4 bytes: "little end first, 0 past the image and past FFFFFFFFh", where no
+-- accepted image reaches
 unfoldable pub readAt : ℕ → List ℕ → ℕ → ℕ
 readAt bytes image address = lowValue (take bytes (drop address image))
 

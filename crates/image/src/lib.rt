@@ -1,5 +1,5 @@
-// What is asked of the image alone: its bytes and its header check. Nothing is required of an image; what it is too short or too
-// long for is refused with a number.
+// What is asked of the image alone: its bytes and its header check. Nothing is required of an image; what it is too
+// short or too long for is refused with a number.
 
 mod header;
 mod reads;

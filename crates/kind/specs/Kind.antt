@@ -62,7 +62,8 @@ marker image s = stands (ascii s) image
 abbrev pub eepromKind : ℕ → SaveType
 eepromKind imageLength = cond (ltb 16777216 imageLength) Eeprom8k Eeprom512
 
--- `detect_save_type`: "Bytes ACh–AFh: .. Else these markers are tried in this order .. Else title bytes A0h–ABh equal to POKEMON RUBY .. Else None."
+-- `detect_save_type`: "Bytes ACh–AFh: .. Else these markers are tried in this order .. Else title bytes A0h–ABh
+-- equal to POKEMON RUBY .. Else None."
 unfoldable pub detectSaveType : List ℕ → SaveType
 detectSaveType image =
     cond (code image "GBXP" || code image "GBXJ" || code image "GBXE") Sram

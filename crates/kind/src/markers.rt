@@ -56,7 +56,11 @@ pub fn contains(s: &[u8], marker: &[u8]) -> bool
 
 // One of three codes at ACh.
 fn code_is(image: &[u8], a: &[u8], b: &[u8], c: &[u8]) -> bool
-    ensures { λ r. ⌜ r ≡ (begins·spec (now (a .entry)) (drop 0xac (now (image .entry))) || begins·spec (now (b .entry)) (drop 0xac (now (image .entry))) || begins·spec (now (c .entry)) (drop 0xac (now (image .entry)))) ⌝ }
+    ensures { λ r. ⌜
+        r
+        ≡ (begins·spec (now (a .entry)) (drop 0xac (now (image .entry)))
+        || begins·spec (now (b .entry)) (drop 0xac (now (image .entry)))
+        || begins·spec (now (c .entry)) (drop 0xac (now (image .entry)))) ⌝ }
 {
     if begins_at(image, 0xAC, a) {
         return true;

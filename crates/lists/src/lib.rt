@@ -1,5 +1,5 @@
-// Bytes, texts, digits and questions: definitions that every other crate's contracts are made of, the two loops that fill and copy, and
-// numbers from their bytes.
+// Bytes, texts, digits and questions: definitions that every other crate's contracts are made of, the two loops
+// that fill and copy, and numbers from their bytes.
 
 ghost use mathlib.Core.Path.{_≡_};
 ghost use Prim.Native.Nat.{_+_, _*_, _≤_};

@@ -15,8 +15,8 @@ erased n = replicate n 0xff
 unfoldable pub filled : ℕ → List ℕ → List ℕ
 filled n file = take n file ++ erased (n - length file)
 
--- what each store leaves of a memory; `file` is what the call was passed. 01, Serial EEPROM: "stores acc in the block's eight bytes, highest
--- first"; Bytes: "fills A's 4,096-byte sector with FFh, 10h the whole chip"
+-- what each store leaves of a memory; `file` is what the call was passed. 01, Serial EEPROM: "stores acc in the
+-- block's eight bytes, highest first"; Bytes: "fills A's 4,096-byte sector with FFh, 10h the whole chip"
 unfoldable pub stored : Store → List ℕ → List ℕ → List ℕ
 stored Nothing file m = m
 stored (Byte a v) file m = set m a v
@@ -51,7 +51,8 @@ pub record Held (A : Type 0) : Type 0 where
 
 -- Every change of a save memory: the chip after the step, what is stored, and whether that sets the flag.
 abbrev pub changed : {A : Type 0} → A → Store → List ℕ → Bool → Held A → Held A
-changed chip store file sets x = record { chip = chip; memory = stored store file (x .memory); dirty = sets || x .dirty }
+changed chip store file sets x =
+    record { chip = chip; memory = stored store file (x .memory); dirty = sets || x .dirty }
 
 -- by a chip's own step, which is passed no file
 abbrev pub applied : {A : Type 0} → A → Store → Held A → Held A

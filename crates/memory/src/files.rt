@@ -14,7 +14,8 @@ fn room() -> [u8; 131072]
     [0; 131072]
 }
 
-// `copy`, through an array that is distinct from both: the compiler removes the array, and one move of the whole is left.
+// `copy`, through an array that is distinct from both: the compiler removes the array, and one move of the whole is
+// left.
 pub fn copy_file(s: &mut [u8], output: &[u8])
     requires { ⌜ (length (now output) ≤ length (now s)) × (length (now output) ≤ 131072) ⌝ }
     ensures { λ _. ⌜ now (s .exit) ≡ into (now (output .entry)) (now (s .entry)) ⌝ }

@@ -1,17 +1,8 @@
-// Two quick tests in front of question 2, for records that calls usually meet. A test says yes only where question 2 does. It joins neighbouring
-// bytes to one number and compares once; bytes that a call has just stored are tested one at a time, since a wider load would stall.
-use c_record::BANK;
-use c_record::BLOCK;
-use c_record::COUNT;
-use c_record::DIRTY;
-use c_record::FLASH_STATE;
-use c_record::ID_MODE;
-use c_record::KIND;
-use c_record::LARGE;
-use c_record::PHASE;
-use c_record::PLACE;
+// Two quick tests in front of question 2, for records that calls usually meet. A test says yes only where question
+// 2 does. It joins neighbouring bytes to one number and compares once; bytes that a call has just stored are tested
+// one at a time, since a wider load would stall.
 use c_record::RecordBytes;
-use c_record::WIDTH;
+use c_record::layout;
 use eeprom::w;
 use eeprom::width_allowed;
 use flash::state_allowed;
@@ -22,16 +13,16 @@ ghost use mathlib.Core.Path.{_≡_};
 ghost use mathlib.Core.Bool.{true};
 ghost use Prim.Native.Nat.{_≤_};
 ghost use lib.ListN.{length, getD};
-ghost use Rattle.c_record.specs.RecordBytes.{isRecord, Valid};
+ghost use Rattle.c_record.specs.RecordBytes.{recordSize, isRecord, Valid};
 ghost use Rattle.c_record.specs.Fields.{idAt};
 ghost use Rattle.quick_tests.specs.QuickTests.{isKnown, FieldsUsual, SerialRests, CountAllowed};
 
 fn known_in(bytes: &[u8]) -> bool
-    requires { ⌜ length (now bytes) ≡ 24 ⌝ }
+    requires { ⌜ length (now bytes) ≡ recordSize ⌝ }
     ensures { λ b. ⌜ b ≡ isKnown (now (bytes .entry)) ⌝ }
     ensures { λ _. ⌜ (isRecord (now (bytes .entry)) ≡ true → Valid (now (bytes .entry))) ⌝ }
 {
-    if 5 < bytes[KIND] {
+    if 5 < bytes[layout::KIND] {
         return false;
     }
     image_length(low32(bytes[0], bytes[1], bytes[2], bytes[3]) as usize)
@@ -47,30 +38,40 @@ pub fn known(cart: &RecordBytes) -> bool
 
 // No ID mode but 0 or 1, and the serial chip at rest.
 fn serial_rests(bytes: &[u8]) -> bool
-    requires { ⌜ length (now bytes) ≡ 24 ⌝ }
+    requires { ⌜ length (now bytes) ≡ recordSize ⌝ }
     ensures { λ b. ⌜ (b ≡ true → (getD (now (bytes .entry)) idAt 0 ≤ 1) × SerialRests (now (bytes .entry))) ⌝ }
 {
     low64(
-        low32(bytes[ID_MODE], bytes[WIDTH], bytes[LARGE], bytes[PHASE]),
-        low32(bytes[COUNT], bytes[BLOCK], bytes[BLOCK + 1], bytes[PLACE]),
+        low32(
+            bytes[layout::ID_MODE],
+            bytes[layout::WIDTH],
+            bytes[layout::LARGE],
+            bytes[layout::PHASE],
+        ),
+        low32(
+            bytes[layout::COUNT],
+            bytes[layout::BLOCK],
+            bytes[layout::BLOCK + 1],
+            bytes[layout::PLACE],
+        ),
     )
         <= 1
 }
 
 fn bytes_usual_in(bytes: &[u8]) -> bool
-    requires { ⌜ length (now bytes) ≡ 24 ⌝ }
+    requires { ⌜ length (now bytes) ≡ recordSize ⌝ }
     ensures { λ b. ⌜ (b ≡ true → isKnown (now (bytes .entry)) ≡ true → isRecord (now (bytes .entry)) ≡ true) ⌝ }
 {
-    if 1 < bytes[DIRTY] {
+    if 1 < bytes[layout::DIRTY] {
         return false;
     }
-    if 1 < bytes[BANK] {
+    if 1 < bytes[layout::BANK] {
         return false;
     }
     if !serial_rests(bytes) {
         return false;
     }
-    state_allowed(bytes[FLASH_STATE])
+    state_allowed(bytes[layout::FLASH_STATE])
 }
 
 // For the byte calls: the serial chip is at rest.
@@ -82,29 +83,29 @@ pub fn bytes_usual(cart: &RecordBytes) -> bool
 
 // The flash chip is at rest, and the serial chip's fields are allowed, phase and count left out.
 fn fields_usual_in(bytes: &[u8]) -> bool
-    requires { ⌜ length (now bytes) ≡ 24 ⌝ }
+    requires { ⌜ length (now bytes) ≡ recordSize ⌝ }
     ensures { λ b. ⌜ (b ≡ true → FieldsUsual (now (bytes .entry))) ⌝ }
 {
     if 1
         < low32(
-            bytes[DIRTY],
-            bytes[FLASH_STATE],
-            bytes[BANK],
-            bytes[ID_MODE],
+            bytes[layout::DIRTY],
+            bytes[layout::FLASH_STATE],
+            bytes[layout::BANK],
+            bytes[layout::ID_MODE],
         )
     {
         return false;
     }
-    if 1 < bytes[LARGE] {
+    if 1 < bytes[layout::LARGE] {
         return false;
     }
-    if !width_allowed(bytes[WIDTH]) {
+    if !width_allowed(bytes[layout::WIDTH]) {
         return false;
     }
-    if 3 < bytes[BLOCK + 1] {
+    if 3 < bytes[layout::BLOCK + 1] {
         return false;
     }
-    bytes[PLACE] <= 67
+    bytes[layout::PLACE] <= 67
 }
 
 fn fields_usual(cart: &RecordBytes) -> bool
@@ -132,11 +133,17 @@ fn count_usual(phase: u8, count: u8, width: u8, large: bool) -> bool
     count < w(width, large)
 }
 
-// For the serial calls: the flash chip is at rest. The count comes first, so that the test needs no register that has to be saved.
+// For the serial calls: the flash chip is at rest. The count comes first, so that the test needs no register that
+// has to be saved.
 pub fn serial_usual(cart: &RecordBytes) -> bool
     ensures { λ b. ⌜ (b ≡ true → isKnown (now (cart .entry)) ≡ true → isRecord (now (cart .entry)) ≡ true) ⌝ }
 {
-    if !count_usual(cart[PHASE], cart[COUNT], cart[WIDTH], cart[LARGE] == 1) {
+    if !count_usual(
+        cart[layout::PHASE],
+        cart[layout::COUNT],
+        cart[layout::WIDTH],
+        cart[layout::LARGE] == 1,
+    ) {
         return false;
     }
     fields_usual(cart)

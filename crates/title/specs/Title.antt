@@ -17,7 +17,8 @@ use Rattle.image.specs.Image.{headerQuestion, answered}
 unfoldable pub between : ℕ → ℕ → ℕ → Bool
 between lo hi b = leb lo b && leb b hi
 
--- table 3-7, well-formed UTF-8 byte sequences: the ranges of the bytes that follow a first byte, or that no sequence begins so
+-- table 3-7, well-formed UTF-8 byte sequences: the ranges of the bytes that follow a first byte, or that no
+-- sequence begins so
 abbrev pub tail : ℕ → Bool
 tail = between 0x80 0xbf
 
@@ -34,7 +35,8 @@ following b =
     (cond (eqb b 0xf4) (some (between 0x80 0x8f ∷ tail ∷ tail ∷ []))
     none))))))))
 
--- definition D93b: a maximal subpart begins a well-formed sequence as far as it goes, or is one byte; n bytes have gone so far
+-- definition D93b: a maximal subpart begins a well-formed sequence as far as it goes, or is one byte; n bytes have
+-- gone so far
 abbrev pub begins : List ℕ → (ℕ → Bool) → Bool
 begins [] r = false
 begins (b ∷ s) r = r b
@@ -87,7 +89,8 @@ titleBytes image = trimmed (replaced 0 (slice 0xa0 0xac image))
 
 -- "The answer is its length"; 13: "Does the destination hold the output (export, title)?"
 abbrev pub titleQuestions : List ℕ → List ℕ → List Question
-titleQuestions image destination = headerQuestion image ∷ leb (length (titleBytes image)) (length destination) else 13 ∷ []
+titleQuestions image destination =
+    headerQuestion image ∷ leb (length (titleBytes image)) (length destination) else 13 ∷ []
 
 unfoldable pub headerTitle : List ℕ → List ℕ → Answer × List ℕ
 headerTitle image destination = (

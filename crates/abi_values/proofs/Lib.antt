@@ -1,2 +1,0 @@
-pub mod ValueCalls
-pub mod QuickCalls

@@ -1,0 +1,58 @@
+-- `c_state_calls::states::restore_chip_state` meets its contract. Assumes nothing.
+use mathlib.Core.Path.{sym, ap, _∙_}
+use mathlib.Core.List.{List, []}
+use Prim.Native.Nat.{ℕ}
+use native.Mathlib.Omega.{arith}
+use Rattle.lists.proofs.Bools.{denied, granted}
+use Rattle.cart.specs.Calls.{restore}
+use Rattle.cart.proofs.Fields.{state-size}
+use Rattle.c_record.specs.AtExit.{plain}
+use Rattle.c_record.proofs.RecordBytes.{are-bytes}
+use Rattle.c_record.proofs.Calls.{no-record}
+use Rattle.c_state_calls.proofs.StateCalls.{restore-no, restore-yes}
+use borrow.Author.Needs.{needs}
+use Rattle.c_state_calls.proofs.states.restore_chip_state.Statement.{statement}
+use Rattle.c_state_calls.proofs.states.restore_chip_state.Tie as tie
+
+returns : tie.Need-returns
+returns c =
+    let a = c .before .before .before .before .args in
+    λ m. ap plain (no-record (restore (a .bytes .now)) [] (a .cart .now) m (denied _ (c .before .is-record .ensures .0) (c .if1 .taken)))
+
+returns-2 : tie.Need-returns-2
+returns-2 c =
+    let q = c .before .before in
+    let a = q .before .before .before .before .args in
+    let i = q .before .is-record .ensures in
+    λ m. restore-no (a .cart .now) (i .1 (granted _ (i .0) (q .if1 .left))) (a .bytes .now) m _ (c .before .state-questions .ensures) (c .if2 .taken)
+
+with-state-requires : tie.Need-with-state-requires
+with-state-requires c κs =
+    let n = c .before in
+    let q = n .before .before in
+    let i = q .before .is-record .ensures in
+    (i .1 (granted _ (i .0) (q .if1 .left)), state-size (q .before .before .before .before .args .bytes .now) (sym (n .before .state-questions .ensures) ∙ n .if2 .left))
+
+returns-3 : tie.Need-returns-3
+returns-3 c =
+    let n = c .before .before in
+    let q = n .before .before in
+    let a = q .before .before .before .before .args in
+    let b = a .bytes .now in
+    let i = q .before .is-record .ensures in
+    let k = are-bytes b (λ j. omega (arith, q .before .before .before .shared-slice-known .given j)) in
+    λ m.
+    ap (λ (l : List ℕ). (0, l, m)) (c .with-state .ensures)
+    ∙ restore-yes (a .cart .now) (i .1 (granted _ (i .0) (q .if1 .left))) b m _ (n .before .state-questions .ensures) (n .if2 .left) k
+
+pub restore-chip-state-spec : {M : Type 1} → statement M
+restore-chip-state-spec =
+    tie.close
+    (tie.spec
+    (λ c κs. search needs)
+    returns
+    (λ c κs. search needs)
+    (λ c. search needs)
+    returns-2
+    with-state-requires
+    returns-3)
