@@ -34,6 +34,8 @@ pub fn chip_state(cart: &RecordBytes, bytes: &mut StateBytes) -> u32
     if !is_record(cart) {
         return 2;
     }
+    // after a store the bytes are read anew, and so copied wide instead of one at a time
+    bytes[0] = cart[CHIP];
     *bytes = [
         cart[layout::CHIP],
         cart[layout::CHIP + 1],

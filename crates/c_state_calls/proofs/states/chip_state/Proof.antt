@@ -17,7 +17,7 @@ returns c =
 
 returns-2 : tie.Need-returns-2
 returns-2 c =
-    let q = c .before .before .before .before .before .before .before .before .before .before .before .before .before .before .before .before .before .before .before in
+    let q = c .before .before .before .before .before .before .before .before .before .before .before .before .before .before .before .before .before .before .before .before in
     let a = q .before .before .args in
     let i = q .before .is-record .ensures in
     λ m. state-yes (a .cart .now) (i .1 (granted _ (i .0) (q .if1 .left))) m (a .bytes .now)
@@ -28,6 +28,8 @@ chip-state-spec =
     (tie.spec
     (λ c κs. search needs)
     returns
+    (λ c. search needs)
+    (λ c. search needs)
     (λ c. search needs)
     (λ c. search needs)
     (λ c. search needs)
