@@ -35,7 +35,7 @@ pub fn chip_state(cart: &RecordBytes, bytes: &mut StateBytes) -> u32
         return 2;
     }
     // after a store the bytes are read anew, and so copied wide instead of one at a time
-    bytes[0] = cart[CHIP];
+    bytes[0] = cart[layout::CHIP];
     *bytes = [
         cart[layout::CHIP],
         cart[layout::CHIP + 1],
