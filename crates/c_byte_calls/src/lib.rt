@@ -21,8 +21,7 @@ ghost use Rattle.c_record.specs.Calls.{reads, writes};
 
 fn read_valid(cart: &RecordBytes, memory: &[u8], address: u32, value: &mut u32) -> u32
     requires { ⌜ Valid (now cart) ⌝ }
-    ensures { λ x. ⌜
-        (x, now (cart .entry), now (memory .entry), now (value .exit))
+    ensures { λ x. ⌜ (x, now (cart .entry), now (memory .entry), now (value .exit))
         ≡ reads address (now (cart .entry)) (now (memory .entry)) (now (value .entry)) ⌝ }
 {
     let kind = kind_in(cart);
@@ -34,8 +33,7 @@ fn read_valid(cart: &RecordBytes, memory: &[u8], address: u32, value: &mut u32) 
 }
 
 fn read_any(cart: &RecordBytes, memory: &[u8], address: u32, value: &mut u32) -> u32
-    ensures { λ x. ⌜
-        (x, now (cart .entry), now (memory .entry), now (value .exit))
+    ensures { λ x. ⌜ (x, now (cart .entry), now (memory .entry), now (value .exit))
         ≡ reads address (now (cart .entry)) (now (memory .entry)) (now (value .entry)) ⌝ }
 {
     if !is_record(cart) {
@@ -45,8 +43,7 @@ fn read_any(cart: &RecordBytes, memory: &[u8], address: u32, value: &mut u32) ->
 }
 
 pub fn save_read(cart: &RecordBytes, memory: &[u8], address: u32, value: &mut u32) -> u32
-    ensures { λ x. ⌜
-        (x, now (cart .entry), now (memory .entry), now (value .exit))
+    ensures { λ x. ⌜ (x, now (cart .entry), now (memory .entry), now (value .exit))
         ≡ reads address (now (cart .entry)) (now (memory .entry)) (now (value .entry)) ⌝ }
 {
     if !known(cart) {
@@ -61,8 +58,7 @@ pub fn save_read(cart: &RecordBytes, memory: &[u8], address: u32, value: &mut u3
 // The record is updated first, so that nothing stays live across an erase.
 fn write_valid(cart: &mut RecordBytes, memory: &mut [u8], address: u32, value: u8) -> u32
     requires { ⌜ Valid (now cart) ⌝ }
-    ensures { λ x. ⌜
-        (x, now (cart .exit), now (memory .exit))
+    ensures { λ x. ⌜ (x, now (cart .exit), now (memory .exit))
         ≡ writes address value (now (cart .entry)) (now (memory .entry)) ⌝ }
 {
     let kind = kind_in(cart);
@@ -80,8 +76,7 @@ fn write_valid(cart: &mut RecordBytes, memory: &mut [u8], address: u32, value: u
 }
 
 fn write_any(cart: &mut RecordBytes, memory: &mut [u8], address: u32, value: u8) -> u32
-    ensures { λ x. ⌜
-        (x, now (cart .exit), now (memory .exit))
+    ensures { λ x. ⌜ (x, now (cart .exit), now (memory .exit))
         ≡ writes address value (now (cart .entry)) (now (memory .entry)) ⌝ }
 {
     if !is_record(cart) {
@@ -91,8 +86,7 @@ fn write_any(cart: &mut RecordBytes, memory: &mut [u8], address: u32, value: u8)
 }
 
 pub fn save_write(cart: &mut RecordBytes, memory: &mut [u8], address: u32, value: u8) -> u32
-    ensures { λ x. ⌜
-        (x, now (cart .exit), now (memory .exit))
+    ensures { λ x. ⌜ (x, now (cart .exit), now (memory .exit))
         ≡ writes address value (now (cart .entry)) (now (memory .entry)) ⌝ }
 {
     if !known(cart) {

@@ -25,8 +25,7 @@ ghost use Rattle.c_record.specs.Calls.{loads, exports, imports};
 // An accepted load: of the record only `large` may change. The memory comes last, so that nothing stays live across it.
 fn load_valid(cart: &mut RecordBytes, memory: &mut [u8], file: &[u8])
     requires { ⌜ Valid (now cart) × (length (now memory) ≡ memorySize (cartOf (now cart) .kind)) ⌝ }
-    ensures { λ _. ⌜
-        (0, now (cart .exit), now (memory .exit))
+    ensures { λ _. ⌜ (0, now (cart .exit), now (memory .exit))
         ≡ plain (left (accepted (loadSave (now (file .entry))) []
         (stateOf (now (cart .entry)) (now (memory .entry))))) ⌝ }
 {
@@ -37,8 +36,7 @@ fn load_valid(cart: &mut RecordBytes, memory: &mut [u8], file: &[u8])
 }
 
 pub fn load_save(cart: &mut RecordBytes, memory: &mut [u8], file: &[u8]) -> u32
-    ensures { λ x. ⌜
-        (x, now (cart .exit), now (memory .exit))
+    ensures { λ x. ⌜ (x, now (cart .exit), now (memory .exit))
         ≡ loads (now (file .entry)) (now (cart .entry)) (now (memory .entry)) ⌝ }
 {
     if !is_record(cart) {
@@ -53,8 +51,7 @@ pub fn load_save(cart: &mut RecordBytes, memory: &mut [u8], file: &[u8]) -> u32
 }
 
 pub fn save_data(cart: &RecordBytes, memory: &[u8], destination: &mut [u8], length: &mut u32) -> u32
-    ensures { λ x. ⌜
-        (x, now (cart .entry), now (memory .entry), now (destination .exit), now (length .exit))
+    ensures { λ x. ⌜ (x, now (cart .entry), now (memory .entry), now (destination .exit), now (length .exit))
         ≡ exports (now (destination .entry)) (now (cart .entry)) (now (memory .entry)) (now (length .entry)) ⌝ }
 {
     if !is_record(cart) {
@@ -75,8 +72,7 @@ pub fn save_data(cart: &RecordBytes, memory: &[u8], destination: &mut [u8], leng
 
 // The part of the file that the kind keeps is loaded, and its length answered.
 pub fn import_save(cart: &mut RecordBytes, memory: &mut [u8], file: &[u8], kept: &mut u32) -> u32
-    ensures { λ x. ⌜
-        (x, now (cart .exit), now (memory .exit), now (kept .exit))
+    ensures { λ x. ⌜ (x, now (cart .exit), now (memory .exit), now (kept .exit))
         ≡ imports (now (file .entry)) (now (cart .entry)) (now (memory .entry)) (now (kept .entry)) ⌝ }
 {
     if !is_record(cart) {

@@ -75,8 +75,7 @@ pub fn eeprom_begin_dma(cart: &mut RecordBytes, words: u32) -> u32
 // A bit that ends a phase. The record is updated first, so that nothing stays live across the store.
 fn turn_in(cart: &mut RecordBytes, memory: &mut [u8], e: Eeprom, acc: u64, b: u64)
     requires { ⌜ (b < 2) × Fits (turned e acc b .store) (length (now memory)) ⌝ }
-    ensures { λ _. ⌜
-        now (cart .exit)
+    ensures { λ _. ⌜ now (cart .exit)
         ≡ withSerial (now (cart .entry)) (stores·spec (turned e acc b .store)) (turned e acc b .eeprom) ⌝ }
     ensures { λ _. ⌜ now (memory .exit) ≡ stored (turned e acc b .store) [] (now (memory .entry)) ⌝ }
 {
@@ -140,8 +139,7 @@ pub fn eeprom_write(cart: &mut RecordBytes, memory: &mut [u8], value: u16) -> u3
 
 fn read_valid(cart: &mut RecordBytes, memory: &[u8], bit: &mut u32) -> u32
     requires { ⌜ Valid (now cart) ⌝ }
-    ensures { λ x. ⌜
-        (x, now (cart .exit), now (memory .entry), now (bit .exit))
+    ensures { λ x. ⌜ (x, now (cart .exit), now (memory .entry), now (bit .exit))
         ≡ givesBit (now (cart .entry)) (now (memory .entry)) (now (bit .entry)) ⌝ }
 {
     let kind = kind_in(cart);
@@ -166,8 +164,7 @@ fn read_valid(cart: &mut RecordBytes, memory: &[u8], bit: &mut u32) -> u32
 }
 
 fn read_any(cart: &mut RecordBytes, memory: &[u8], bit: &mut u32) -> u32
-    ensures { λ x. ⌜
-        (x, now (cart .exit), now (memory .entry), now (bit .exit))
+    ensures { λ x. ⌜ (x, now (cart .exit), now (memory .entry), now (bit .exit))
         ≡ givesBit (now (cart .entry)) (now (memory .entry)) (now (bit .entry)) ⌝ }
 {
     if !is_record(cart) {
@@ -177,8 +174,7 @@ fn read_any(cart: &mut RecordBytes, memory: &[u8], bit: &mut u32) -> u32
 }
 
 pub fn eeprom_read(cart: &mut RecordBytes, memory: &[u8], bit: &mut u32) -> u32
-    ensures { λ x. ⌜
-        (x, now (cart .exit), now (memory .entry), now (bit .exit))
+    ensures { λ x. ⌜ (x, now (cart .exit), now (memory .entry), now (bit .exit))
         ≡ givesBit (now (cart .entry)) (now (memory .entry)) (now (bit .entry)) ⌝ }
 {
     if !known(cart) {

@@ -15,8 +15,7 @@ ghost use Rattle.c_record.specs.Calls.{opens, givesState, restores};
 
 // The record is written whatever it was: all 0 if the opening is refused.
 pub fn from_bytes(cart: &mut RecordBytes, image: &[u8], memory: &mut [u8]) -> u32
-    ensures { λ x. ⌜
-        (x, now (cart .exit), now (memory .exit))
+    ensures { λ x. ⌜ (x, now (cart .exit), now (memory .exit))
         ≡ opens (now (image .entry)) (now (memory .entry)) ⌝ }
 {
     let opened = state_calls::from_bytes(image, memory);

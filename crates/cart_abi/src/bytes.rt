@@ -10,8 +10,7 @@ pub extern "C" fn gbasave_save_read(
     address: u32,
     value: &mut u32,
 ) -> u32
-    ensures { λ x. ⌜
-        (x, now (cart .entry), now (memory .entry), now (value .exit))
+    ensures { λ x. ⌜ (x, now (cart .entry), now (memory .entry), now (value .exit))
         ≡ reads address (now (cart .entry)) (now (memory .entry)) (now (value .entry)) ⌝ }
 {
     c_byte_calls::save_read(cart, memory, address, value)
@@ -24,8 +23,7 @@ pub extern "C" fn gbasave_save_write(
     address: u32,
     value: u8,
 ) -> u32
-    ensures { λ x. ⌜
-        (x, now (cart .exit), now (memory .exit))
+    ensures { λ x. ⌜ (x, now (cart .exit), now (memory .exit))
         ≡ writes address value (now (cart .entry)) (now (memory .entry)) ⌝ }
 {
     c_byte_calls::save_write(cart, memory, address, value)

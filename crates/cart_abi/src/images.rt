@@ -7,8 +7,7 @@ ghost use Rattle.crc.specs.Crc.{romCrc};
 
 #[no_mangle]
 pub extern "C" fn gbasave_read(image: &[u8], address: u32, value: &mut u32) -> u32
-    ensures { λ x. ⌜
-        (x, now (value .exit))
+    ensures { λ x. ⌜ (x, now (value .exit))
         ≡ answeredAt (read·spec 1 (now (image .entry)) address) (now (value .entry)) ⌝ }
 {
     c_image_calls::read(image, address, value)
@@ -16,8 +15,7 @@ pub extern "C" fn gbasave_read(image: &[u8], address: u32, value: &mut u32) -> u
 
 #[no_mangle]
 pub extern "C" fn gbasave_read16(image: &[u8], address: u32, value: &mut u32) -> u32
-    ensures { λ x. ⌜
-        (x, now (value .exit))
+    ensures { λ x. ⌜ (x, now (value .exit))
         ≡ answeredAt (read·spec 2 (now (image .entry)) address) (now (value .entry)) ⌝ }
 {
     c_image_calls::read16(image, address, value)
@@ -25,8 +23,7 @@ pub extern "C" fn gbasave_read16(image: &[u8], address: u32, value: &mut u32) ->
 
 #[no_mangle]
 pub extern "C" fn gbasave_read32(image: &[u8], address: u32, value: &mut u32) -> u32
-    ensures { λ x. ⌜
-        (x, now (value .exit))
+    ensures { λ x. ⌜ (x, now (value .exit))
         ≡ answeredAt (read·spec 4 (now (image .entry)) address) (now (value .entry)) ⌝ }
 {
     c_image_calls::read32(image, address, value)
@@ -41,8 +38,7 @@ pub extern "C" fn gbasave_header_checksum(image: &[u8], value: &mut u32) -> u32
 
 #[no_mangle]
 pub extern "C" fn gbasave_title(image: &[u8], destination: &mut [u8], length: &mut u32) -> u32
-    ensures { λ x. ⌜
-        (x, now (destination .exit), now (length .exit))
+    ensures { λ x. ⌜ (x, now (destination .exit), now (length .exit))
         ≡ titleAt (headerTitle (now (image .entry)) (now (destination .entry))) (now (length .entry)) ⌝ }
 {
     c_image_calls::title(image, destination, length)

@@ -22,8 +22,7 @@ pub extern "C" fn gbasave_eeprom_write(cart: &mut RecordBytes, memory: &mut [u8]
 
 #[no_mangle]
 pub extern "C" fn gbasave_eeprom_read(cart: &mut RecordBytes, memory: &[u8], bit: &mut u32) -> u32
-    ensures { λ x. ⌜
-        (x, now (cart .exit), now (memory .entry), now (bit .exit))
+    ensures { λ x. ⌜ (x, now (cart .exit), now (memory .entry), now (bit .exit))
         ≡ givesBit (now (cart .entry)) (now (memory .entry)) (now (bit .entry)) ⌝ }
 {
     c_serial_calls::eeprom_read(cart, memory, bit)

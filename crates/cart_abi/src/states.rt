@@ -8,16 +8,14 @@ ghost use Rattle.c_record.specs.Calls.{opens, givesState, restores, takesFlag, 
 
 #[no_mangle]
 pub extern "C" fn gbasave_from_bytes(cart: &mut RecordBytes, image: &[u8], memory: &mut [u8]) -> u32
-    ensures { λ x. ⌜
-        (x, now (cart .exit), now (memory .exit)) ≡ opens (now (image .entry)) (now (memory .entry)) ⌝ }
+    ensures { λ x. ⌜ (x, now (cart .exit), now (memory .exit)) ≡ opens (now (image .entry)) (now (memory .entry)) ⌝ }
 {
     c_state_calls::from_bytes(cart, image, memory)
 }
 
 #[no_mangle]
 pub extern "C" fn gbasave_chip_state(cart: &RecordBytes, bytes: &mut StateBytes) -> u32
-    ensures { λ x. ⌜
-        ((m : List ℕ)
+    ensures { λ x. ⌜ ((m : List ℕ)
         → (x, now (cart .entry), m, now (bytes .exit)) ≡ givesState (now (cart .entry)) m (now (bytes .entry))) ⌝ }
 {
     c_state_calls::chip_state(cart, bytes)
@@ -33,8 +31,7 @@ pub extern "C" fn gbasave_restore_chip_state(cart: &mut RecordBytes, bytes: &[u8
 
 #[no_mangle]
 pub extern "C" fn gbasave_take_save_dirty(cart: &mut RecordBytes, flag: &mut u32) -> u32
-    ensures { λ x. ⌜
-        ((m : List ℕ)
+    ensures { λ x. ⌜ ((m : List ℕ)
         → (x, now (cart .exit), m, now (flag .exit)) ≡ takesFlag (now (cart .entry)) m (now (flag .entry))) ⌝ }
 {
     c_state_calls::take_save_dirty(cart, flag)
