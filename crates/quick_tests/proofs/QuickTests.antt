@@ -1,14 +1,14 @@
 -- The quick tests imply question 2. Assumes nothing.
 use mathlib.Core.Path.{_≡_, refl, sym}
 use mathlib.Core.Logic.{_≢_}
-use mathlib.Core.Bool.{Bool, true, false, true≢false}
+use mathlib.Core.Bool.{Bool, true, false, cond, true≢false}
 use mathlib.Core.List.{List}
 use Prim.Native.Nat.{ℕ, _+_, _*_, _≤_, _<_}
 use native.Mathlib.Omega.{arith}
 use lib.Dec.{leb, eqb}
 use lib.ListN.{length, getD, take, drop}
 use lib.Seq.{getD-drop}
-use borrow.Author.Tests.{le-leb, lt-leb, lt-ltb, eqb-false, ne-eqb}
+use borrow.Author.Tests.{le-leb, lt-leb, lt-ltb, eqb-true, eqb-false, ne-eqb}
 use Rattle.lists.specs.Lists.{lowValue}
 use Rattle.lists.specs.Questions.{asked}
 use Rattle.lists.proofs.Bools.{split, cases, and-left, and-right}
@@ -62,13 +62,35 @@ pub count-opcode : (phase count width : ℕ) (large : Bool) → phase ≡ 0 → 
 unfolding phaseOf
 count-opcode phase count width large e l = (omega (arith, e), rw e l)
 
-pub count-address : (phase count width : ℕ) (large : Bool) → phase ≢ 3 → phase ≢ 0 → phase ≤ 3 → count < w width large → CountAllowed phase count width large
+count-address : (phase count width : ℕ) (large : Bool) → phase ≢ 3 → phase ≢ 0 → phase ≤ 3 → count < w width large → CountAllowed phase count width large
 unfolding phaseOf
 count-address phase count width large h z p l = (
   omega arith,
   cases (eqb phase 1) (λ e. rw (ne-eqb phase 0 z, e) l)
       (λ e. let k : phase ≡ 2 = omega (arith, eqb-false phase 1 e, h, z) in rw k l),
 )
+
+-- an address has six bits at least, and as many as were told
+w-six : (width : ℕ) (large : Bool) → widthAllowed width ≡ true → 6 ≤ w width large
+unfolding widthAllowed w
+w-six width large e =
+    cases (eqb width 0) (λ z. rw z (least large))
+    (λ z. rw z (cases (eqb width 6) (λ s. omega (arith, eqb-true width 6 s)) (λ s. omega (arith, eqb-true width 14 (rw (z, s) at e)))))
+  where
+    least : (large : Bool) → 6 ≤ cond large 14 6
+    least true = omega arith
+    least false = omega arith
+
+w-told : (width count : ℕ) (large : Bool) → count < width → count < w width large
+unfolding w
+w-told width count large l = rw (ne-eqb width 0 (λ z. omega (arith, z, l))) l
+
+module _ (phase count width : ℕ) (large : Bool) (h : phase ≢ 3) (z : phase ≢ 0) (p : phase ≤ 3) where
+  pub count-six : widthAllowed width ≡ true → count < 6 → CountAllowed phase count width large
+  count-six a l = count-address phase count width large h z p (omega (arith, l, w-six width large a))
+
+  pub count-told : count < width → CountAllowed phase count width large
+  count-told l = count-address phase count width large h z p (w-told width count large l)
 
 -- the flash chip at rest
 pub flash-zero : (r : List ℕ) → getD r 6 0 ≡ 0 → getD r 7 0 ≤ 1 → getD r 8 0 ≤ 1 → FlashUsual r

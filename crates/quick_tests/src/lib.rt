@@ -3,16 +3,16 @@
 // one at a time, since a wider load would stall.
 use c_record::RecordBytes;
 use c_record::layout;
-use eeprom::w;
 use eeprom::width_allowed;
 use flash::state_allowed;
 use image::image_length;
 use lists::low32;
 use lists::low64;
 ghost use mathlib.Core.Path.{_≡_};
-ghost use mathlib.Core.Bool.{true};
+ghost use mathlib.Core.Bool.{Bool, true};
 ghost use Prim.Native.Nat.{_≤_};
 ghost use lib.ListN.{length, getD};
+ghost use Rattle.eeprom.specs.Eeprom.{widthAllowed};
 ghost use Rattle.c_record.specs.RecordBytes.{recordSize, isRecord, Valid};
 ghost use Rattle.c_record.specs.Fields.{idAt};
 ghost use Rattle.quick_tests.specs.QuickTests.{isKnown, FieldsUsual, SerialRests, CountAllowed};
@@ -114,9 +114,10 @@ fn fields_usual(cart: &RecordBytes) -> bool
     fields_usual_in(&cart[..])
 }
 
-// The count is below the limit of its phase.
-fn count_usual(phase: u8, count: u8, width: u8, large: bool) -> bool
-    ensures { λ b. ⌜ (b ≡ true → CountAllowed phase count width large) ⌝ }
+// The count is below the limit of its phase; of an address of 14 bits whose width no DMA has told, only the first six.
+fn count_usual(phase: u8, count: u8, width: u8) -> bool
+    ensures { λ b. ⌜ (b ≡ true → widthAllowed width ≡ true
+        → (large : Bool) → CountAllowed phase count width large) ⌝ }
 {
     if count == 0 {
         return phase <= 6;
@@ -130,21 +131,22 @@ fn count_usual(phase: u8, count: u8, width: u8, large: bool) -> bool
     if 3 < phase {
         return false;
     }
-    count < w(width, large)
+    if count < 6 {
+        return true;
+    }
+    count < width
 }
 
-// For the serial calls: the flash chip is at rest. The count comes first, so that the test needs no register that
-// has to be saved.
+// For the serial calls: the flash chip is at rest.
 pub fn serial_usual(cart: &RecordBytes) -> bool
     ensures { λ b. ⌜ (b ≡ true → isKnown (now (cart .entry)) ≡ true → isRecord (now (cart .entry)) ≡ true) ⌝ }
 {
-    if !count_usual(
+    if !fields_usual(cart) {
+        return false;
+    }
+    count_usual(
         cart[layout::PHASE],
         cart[layout::COUNT],
         cart[layout::WIDTH],
-        cart[layout::LARGE] == 1,
-    ) {
-        return false;
-    }
-    fields_usual(cart)
+    )
 }

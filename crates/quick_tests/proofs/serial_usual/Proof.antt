@@ -10,19 +10,20 @@ returns : tie.Need-returns
 returns c = λ e h. never e
 
 returns-2 : tie.Need-returns-2
-returns-2 c = λ e h.
-    let r = c .before .before .before .before .before .before .before .args .cart .now in
-    usual-record r (c .fields-usual .ensures e) (c .before .before .count-usual .ensures (granted _ refl (c .before .if1 .left))) h
+returns-2 c =
+    let r = c .before .before .before .before .before .before .args .cart .now in
+    λ e h.
+    let f = c .before .before .before .before .before .fields-usual .ensures (granted _ refl (c .before .before .before .before .if1 .left)) in
+    usual-record r f (c .count-usual .ensures e (f .width) _) h
 
 pub serial-usual-spec : {M : Type 1} → statement M
 serial-usual-spec =
     tie.close
     (tie.spec
-    (λ c. search needs)
-    (λ c. search needs)
-    (λ c. search needs)
-    (λ c. search needs)
     (λ c κs. search needs)
     returns
+    (λ c. search needs)
+    (λ c. search needs)
+    (λ c. search needs)
     (λ c κs. search needs)
     returns-2)
