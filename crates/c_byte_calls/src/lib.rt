@@ -8,8 +8,9 @@ use c_record::RecordBytes;
 use c_record::flash_in;
 use c_record::is_record;
 use c_record::kind_in;
+use c_record::layout;
+use c_record::put_bit;
 use c_record::put_flash;
-use c_record::put_id;
 use kind::memory_size;
 use memory::NO_FILE;
 use memory::apply;
@@ -71,7 +72,7 @@ fn write_valid(cart: &mut RecordBytes, memory: &mut [u8], address: u32, value: u
     let next = t.flash;
     put_flash(cart, t.sets, next);
     apply(store, &NO_FILE, memory);
-    put_id(cart, flash.id, next.id);
+    put_bit(cart, layout::ID_MODE, flash.id, next.id);
     0
 }
 

@@ -4,7 +4,7 @@ use c_record::RecordBytes;
 use c_record::is_record;
 use c_record::kind_in;
 use c_record::layout;
-use c_record::put_large;
+use c_record::put_bit;
 use file_calls::file_length;
 use file_calls::large_after;
 use file_sizes::kept_part;
@@ -31,7 +31,7 @@ fn load_valid(cart: &mut RecordBytes, memory: &mut [u8], file: &[u8])
 {
     let large = cart[layout::LARGE] == 1;
     let next = large_after(kind_in(cart), large, file.len());
-    put_large(cart, large, next);
+    put_bit(cart, layout::LARGE, large, next);
     apply(Store::File, file, memory);
 }
 

@@ -5,9 +5,7 @@ pub const RECORD_SIZE: usize = 24;
 
 pub type RecordBytes = [u8; RECORD_SIZE];
 
-// the image's length, low byte first
-pub const LENGTH: usize = 0;
-
+// The image's length is in the bytes before it, low byte first.
 pub const KIND: usize = 4;
 
 pub const DIRTY: usize = 5;

@@ -14,7 +14,7 @@ ghost use Prim.Native.Nat.{_<_};
 ghost use lib.ListN.{getD, set};
 ghost use Rattle.cart.specs.ChipState.{bit as bit·spec};
 ghost use Rattle.c_record.specs.RecordBytes.{recordSize, recordBytes};
-ghost use Rattle.c_record.specs.Fields.{idAt, largeAt, withFlash, withId, withWidth, withLarge};
+ghost use Rattle.c_record.specs.Fields.{withFlash, withWidth};
 ghost use Rattle.c_record.specs.Fields.{withAcc, withShift, withPlace, withEnded, withSerial};
 
 fn flag_after(sets: bool, flag: u8) -> u8
@@ -38,7 +38,7 @@ pub fn put_flash(cart: &mut RecordBytes, sets: bool, flash: Flash)
 }
 
 // A flag byte that is stored only where it changes: a store would delay the next call's wide load of it.
-fn put_bit(cart: &mut RecordBytes, at: usize, was: bool, is: bool)
+pub fn put_bit(cart: &mut RecordBytes, at: usize, was: bool, is: bool)
     requires { ⌜ (at < recordSize) × (getD (now cart) at 0 ≡ bit·spec was) ⌝ }
     ensures { λ _. ⌜ now (cart .exit) ≡ set (now (cart .entry)) at (bit·spec is) ⌝ }
 {
@@ -53,20 +53,6 @@ fn put_bit(cart: &mut RecordBytes, at: usize, was: bool, is: bool)
         return;
     }
     cart[at] = 1;
-}
-
-pub fn put_id(cart: &mut RecordBytes, was: bool, id: bool)
-    requires { ⌜ getD (now cart) idAt 0 ≡ bit·spec was ⌝ }
-    ensures { λ _. ⌜ now (cart .exit) ≡ withId (now (cart .entry)) id ⌝ }
-{
-    put_bit(cart, layout::ID_MODE, was, id);
-}
-
-pub fn put_large(cart: &mut RecordBytes, was: bool, large: bool)
-    requires { ⌜ getD (now cart) largeAt 0 ≡ bit·spec was ⌝ }
-    ensures { λ _. ⌜ now (cart .exit) ≡ withLarge (now (cart .entry)) large ⌝ }
-{
-    put_bit(cart, layout::LARGE, was, large);
 }
 
 // What a DMA announcement tells.

@@ -1,6 +1,6 @@
-// What is asked of an image alone.
+// The calls on an image, or on a kind's number.
 ghost use mathlib.Core.Path.{_≡_};
-ghost use Rattle.out_params.specs.Places.{answeredAt, kindAnswer, titleAt};
+ghost use Rattle.out_params.specs.Places.{answeredAt, kindAnswer, titleAt, fitAnswer, memorySizeAnswer, sizeAnswer};
 ghost use Rattle.image.specs.Image.{read as read·spec, headerChecksum};
 ghost use Rattle.title.specs.Title.{headerTitle};
 ghost use Rattle.crc.specs.Crc.{romCrc};
@@ -57,4 +57,26 @@ pub extern "C" fn gbasave_detect_save_type(image: &[u8], kind: &mut u32) -> u32
     ensures { λ x. ⌜ (x, now (kind .exit)) ≡ answeredAt (kindAnswer (now (image .entry))) (now (kind .entry)) ⌝ }
 {
     c_image_calls::detect_save_type(image, kind)
+}
+
+// 0 is kept of a file that cannot be this image's.
+#[no_mangle]
+pub extern "C" fn gbasave_save_fit(image: &[u8], length: usize, kept: &mut u32) -> u32
+    ensures { λ x. ⌜ (x, now (kept .exit)) ≡ answeredAt (fitAnswer (now (image .entry)) length) (now (kept .entry)) ⌝ }
+{
+    c_image_calls::save_fit(image, length, kept)
+}
+
+#[no_mangle]
+pub extern "C" fn gbasave_save_size(image: &[u8], size: &mut u32) -> u32
+    ensures { λ x. ⌜ (x, now (size .exit)) ≡ answeredAt (sizeAnswer (now (image .entry))) (now (size .entry)) ⌝ }
+{
+    c_image_calls::save_size(image, size)
+}
+
+#[no_mangle]
+pub extern "C" fn gbasave_memory_size(kind: u32, size: &mut u32) -> u32
+    ensures { λ x. ⌜ (x, now (size .exit)) ≡ answeredAt (memorySizeAnswer kind) (now (size .entry)) ⌝ }
+{
+    c_image_calls::memory_size(kind, size)
 }

@@ -1,9 +1,5 @@
 // The calls that a C program links: one archive has the exports of one crate. Each returns 0 or the number of a
 // refusal; values go to out-parameters.
 
-mod bytes;
 mod images;
-mod save_files;
-mod serial;
-mod sizes;
-mod states;
+mod records;

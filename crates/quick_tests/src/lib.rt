@@ -82,7 +82,7 @@ pub fn bytes_usual(cart: &RecordBytes) -> bool
 }
 
 // The flash chip is at rest, and the serial chip's fields are allowed, phase and count left out.
-fn fields_usual_in(bytes: &[u8]) -> bool
+fn fields_usual(bytes: &[u8]) -> bool
     requires { ⌜ length (now bytes) ≡ recordSize ⌝ }
     ensures { λ b. ⌜ (b ≡ true → FieldsUsual (now (bytes .entry))) ⌝ }
 {
@@ -106,12 +106,6 @@ fn fields_usual_in(bytes: &[u8]) -> bool
         return false;
     }
     bytes[layout::PLACE] <= 67
-}
-
-fn fields_usual(cart: &RecordBytes) -> bool
-    ensures { λ b. ⌜ (b ≡ true → FieldsUsual (now (cart .entry))) ⌝ }
-{
-    fields_usual_in(&cart[..])
 }
 
 // The count is below the limit of its phase; of an address of 14 bits whose width no DMA has told, only the first six.
@@ -141,7 +135,7 @@ fn count_usual(phase: u8, count: u8, width: u8) -> bool
 pub fn serial_usual(cart: &RecordBytes) -> bool
     ensures { λ b. ⌜ (b ≡ true → isKnown (now (cart .entry)) ≡ true → isRecord (now (cart .entry)) ≡ true) ⌝ }
 {
-    if !fields_usual(cart) {
+    if !fields_usual(&cart[..]) {
         return false;
     }
     count_usual(

@@ -2,6 +2,7 @@
 use mathlib.Core.Path.{sym, subst, ap, ap₂, _∙_}
 use mathlib.Core.List.{List}
 use Prim.Native.Nat.{ℕ}
+use native.Mathlib.Omega.{arith}
 use lib.ListN.{length, getD}
 use Rattle.memory.specs.Memory.{Fits}
 use Rattle.kind.specs.declared.SaveType.{SaveType}
@@ -31,11 +32,11 @@ apply-requires c κs =
     let e = c .before .before .before .before .before .before .before .before .if1 .left ∙ c .before .before .before .before .before .before .before .before .before .memory-size .ensures in
     subst (λ (t : ByteStep). Fits (t .store) n) (sym (c .before .before .before .before .before .write-byte .ensures)) (step-fits (c .before .before .before .before .before .before .before .before .before .before .kind-in .result) _ n (a .address) (a .value) e)
 
-put-id-requires : tie.Need-put-id-requires
-put-id-requires c κs =
+put-bit-requires : tie.Need-put-bit-requires
+put-bit-requires c κs =
     let s = c .before .before .before .before .before .before .before .before .before .before .before .before .before .before .before .before .before in
     let t = c .before .before .before .before .before .before .before .before .before .write-byte .result in
-    ap (λ (l : List ℕ). getD l 8 0) (c .before .before .before .before .before .before .put-flash .ensures) ∙ id-byte (s .args .cart .now) (s .pre) (t .sets) (t .flash) ∙ ap (λ (f : Flash). bit (f .id)) (sym (c .before .before .before .before .before .before .before .before .before .before .flash-in .ensures))
+    (omega arith, ap (λ (l : List ℕ). getD l 8 0) (c .before .before .before .before .before .before .put-flash .ensures) ∙ id-byte (s .args .cart .now) (s .pre) (t .sets) (t .flash) ∙ ap (λ (f : Flash). bit (f .id)) (sym (c .before .before .before .before .before .before .before .before .before .before .flash-in .ensures)))
 
 returns-2 : tie.Need-returns-2
 returns-2 c =
@@ -46,7 +47,7 @@ returns-2 c =
     let t = c .before .before .before .before .before .before .before .before .before .before .write-byte in
     write-yes r m (s .pre) (c .before .before .before .before .before .before .before .before .before .before .before .before .before .if1 .left ∙ c .before .before .before .before .before .before .before .before .before .before .before .before .before .before .memory-size .ensures ∙ ap memorySize (k .ensures)) (s .args .address) (s .args .value) (t .result)
     (t .ensures ∙ ap₂ (λ (x : SaveType) (f : Flash). writeStep x f (length m) (s .args .address) (s .args .value)) (k .ensures) (c .before .before .before .before .before .before .before .before .before .before .before .flash-in .ensures))
-    (c .put-id .ensures ∙ ap (λ (l : List ℕ). withId l (t .result .flash .id)) (c .before .before .before .before .before .before .before .put-flash .ensures))
+    (c .put-bit .ensures ∙ ap (λ (l : List ℕ). withId l (t .result .flash .id)) (c .before .before .before .before .before .before .before .put-flash .ensures))
     (c .before .before .before .before .apply .ensures)
 
 pub write-valid-spec : {M : Type 1} → statement M
@@ -61,6 +62,6 @@ write-valid-spec =
     (λ c κs. search needs)
     (λ c. search needs)
     apply-requires
-    put-id-requires
+    put-bit-requires
     (λ c. search needs)
     returns-2)

@@ -14,11 +14,11 @@ use borrow.Author.Needs.{needs}
 use Rattle.c_file_calls.proofs.load_valid.Statement.{statement}
 use Rattle.c_file_calls.proofs.load_valid.Tie as tie
 
-put-large-requires : tie.Need-put-large-requires
-put-large-requires c κs =
+put-bit-requires : tie.Need-put-bit-requires
+put-bit-requires c κs =
     let s = c .before .before .before .before .before .before .before in
     let r = s .args .cart .now in
-    large-byte r (s .pre .0) ∙ ap bit (sym (large-read r))
+    (omega arith, large-byte r (s .pre .0) ∙ ap bit (sym (large-read r)))
 
 apply-requires : tie.Need-apply-requires
 apply-requires c κs =
@@ -33,7 +33,7 @@ returns c =
     let f = s .args .file .now in
     load-valid r (s .args .memory .now) (s .pre .0) f _
     (l .large-after .ensures ∙ ap₂ (λ (k : SaveType) (b : Bool). largeAfter k b (length f)) (l .before .kind-in .ensures) (large-read r))
-    (c .before .before .before .before .put-large .ensures)
+    (c .before .before .before .before .put-bit .ensures)
     (c .before .before .apply .ensures)
 
 pub load-valid-spec : {M : Type 1} → statement M
@@ -43,7 +43,7 @@ load-valid-spec =
     (λ c. search needs)
     (λ c κs. search needs)
     (λ c κs. search needs)
-    put-large-requires
+    put-bit-requires
     apply-requires
     (λ c. search needs)
     returns)

@@ -11,7 +11,7 @@ returns c = λ e h. never e
 
 returns-2 : tie.Need-returns-2
 returns-2 c =
-    let r = c .before .before .before .before .before .before .args .cart .now in
+    let r = c .before .before .before .before .before .before .before .args .cart .now in
     λ e h.
     let f = c .before .before .before .before .before .fields-usual .ensures (granted _ refl (c .before .before .before .before .if1 .left)) in
     usual-record r f (c .count-usual .ensures e (f .width) _) h

@@ -17,52 +17,9 @@ returns c =
 
 returns-2 : tie.Need-returns-2
 returns-2 c =
-    let q = c .before .before .before .before .before .before .before .before .before .before .before .before .before .before .before .before .before .before .before .before in
-    let a = q .before .before .args in
-    let i = q .before .is-record .ensures in
-    λ m. state-yes (a .cart .now) (i .1 (granted _ (i .0) (q .if1 .left))) m (a .bytes .now)
+    let a = c .before .before .before .before .before .args in
+    let i = c .before .before .before .before .is-record .ensures in
+    λ m. state-yes (a .cart .now) (i .1 (granted _ (i .0) (c .before .before .before .if1 .left))) m (a .bytes .now) (c .copy-out .ensures)
 
 pub chip-state-spec : {M : Type 1} → statement M
-chip-state-spec =
-    tie.close
-    (tie.spec
-    (λ c κs. search needs)
-    returns
-    (λ c. search needs)
-    (λ c. search needs)
-    (λ c. search needs)
-    (λ c. search needs)
-    (λ c. search needs)
-    (λ c. search needs)
-    (λ c. search needs)
-    (λ c. search needs)
-    (λ c. search needs)
-    (λ c. search needs)
-    (λ c. search needs)
-    (λ c. search needs)
-    (λ c. search needs)
-    (λ c. search needs)
-    (λ c. search needs)
-    (λ c. search needs)
-    (λ c. search needs)
-    (λ c. search needs)
-    (λ c. search needs)
-    (λ c. search needs)
-    (λ c. search needs)
-    (λ c. search needs)
-    (λ c. search needs)
-    (λ c. search needs)
-    (λ c. search needs)
-    (λ c. search needs)
-    (λ c. search needs)
-    (λ c. search needs)
-    (λ c. search needs)
-    (λ c. search needs)
-    (λ c. search needs)
-    (λ c. search needs)
-    (λ c. search needs)
-    (λ c. search needs)
-    (λ c. search needs)
-    (λ c. search needs)
-    (λ c. search needs)
-    returns-2)
+chip-state-spec = tie.close (tie.spec (λ c κs. search needs) returns (λ c κs. search needs) returns-2)

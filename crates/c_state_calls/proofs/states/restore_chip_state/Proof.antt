@@ -1,7 +1,6 @@
 -- `c_state_calls::states::restore_chip_state` meets its contract. Assumes nothing.
 use mathlib.Core.Path.{sym, ap, _∙_}
-use mathlib.Core.List.{List, []}
-use Prim.Native.Nat.{ℕ}
+use mathlib.Core.List.{[]}
 use native.Mathlib.Omega.{arith}
 use Rattle.lists.proofs.Bools.{denied, granted}
 use Rattle.cart.specs.Calls.{restore}
@@ -21,29 +20,20 @@ returns c =
 
 returns-2 : tie.Need-returns-2
 returns-2 c =
-    let q = c .before .before in
-    let a = q .before .before .before .before .args in
-    let i = q .before .is-record .ensures in
-    λ m. restore-no (a .cart .now) (i .1 (granted _ (i .0) (q .if1 .left))) (a .bytes .now) m _ (c .before .state-questions .ensures) (c .if2 .taken)
+    let a = c .before .before .before .before .before .before .args in
+    let i = c .before .before .before .is-record .ensures in
+    λ m. restore-no (a .cart .now) (i .1 (granted _ (i .0) (c .before .before .if1 .left))) (a .bytes .now) m _ (c .before .state-questions .ensures) (c .if2 .taken)
 
-with-state-requires : tie.Need-with-state-requires
-with-state-requires c κs =
-    let n = c .before in
-    let q = n .before .before in
-    let i = q .before .is-record .ensures in
-    (i .1 (granted _ (i .0) (q .if1 .left)), state-size (q .before .before .before .before .args .bytes .now) (sym (n .before .state-questions .ensures) ∙ n .if2 .left))
+copy-in-requires : tie.Need-copy-in-requires
+copy-in-requires c κs = (search needs, state-size (c .before .before .before .before .before .before .before .args .bytes .now) (sym (c .before .before .state-questions .ensures) ∙ c .before .if2 .left))
 
 returns-3 : tie.Need-returns-3
 returns-3 c =
-    let n = c .before .before in
-    let q = n .before .before in
-    let a = q .before .before .before .before .args in
-    let b = a .bytes .now in
-    let i = q .before .is-record .ensures in
-    let k = are-bytes b (λ j. omega (arith, q .before .before .before .shared-slice-known .given j)) in
+    let a = c .before .before .before .before .before .before .before .before .args in
+    let i = c .before .before .before .before .before .is-record .ensures in
+    let k = are-bytes (a .bytes .now) (λ j. omega (arith, c .before .before .before .before .before .before .before .shared-slice-known .given j)) in
     λ m.
-    ap (λ (l : List ℕ). (0, l, m)) (c .with-state .ensures)
-    ∙ restore-yes (a .cart .now) (i .1 (granted _ (i .0) (q .if1 .left))) b m _ (n .before .state-questions .ensures) (n .if2 .left) k
+    restore-yes (a .cart .now) (i .1 (granted _ (i .0) (c .before .before .before .before .if1 .left))) (a .bytes .now) m _ (c .before .before .before .state-questions .ensures) (c .before .before .if2 .left) k (c .copy-in .ensures)
 
 pub restore-chip-state-spec : {M : Type 1} → statement M
 restore-chip-state-spec =
@@ -54,5 +44,5 @@ restore-chip-state-spec =
     (λ c κs. search needs)
     (λ c. search needs)
     returns-2
-    with-state-requires
+    copy-in-requires
     returns-3)

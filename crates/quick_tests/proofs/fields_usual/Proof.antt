@@ -1,11 +1,11 @@
--- `quick_tests::fields_usual_in` meets its contract. Assumes nothing.
+-- `quick_tests::fields_usual` meets its contract. Assumes nothing.
 use native.Mathlib.Omega.{arith}
 use borrow.Author.Tests.{leb-true}
 use Rattle.lists.proofs.Bools.{granted}
 use Rattle.quick_tests.proofs.QuickTests.{never, flash-zero}
 use borrow.Author.Needs.{needs}
-use Rattle.quick_tests.proofs.fields_usual_in.Statement.{statement}
-use Rattle.quick_tests.proofs.fields_usual_in.Tie as tie
+use Rattle.quick_tests.proofs.fields_usual.Statement.{statement}
+use Rattle.quick_tests.proofs.fields_usual.Tie as tie
 
 returns : tie.Need-returns
 returns c = λ e. never e
@@ -33,8 +33,8 @@ returns-5 c = λ e.
       place = leb-true _ 67 e;
     }
 
-pub fields-usual-in-spec : {M : Type 1} → statement M
-fields-usual-in-spec =
+pub fields-usual-spec : {M : Type 1} → statement M
+fields-usual-spec =
     tie.close
     (tie.spec
     (λ c. search needs)
