@@ -1,4 +1,4 @@
-// What is asked of an image alone, or of a kind's number. Values come through lent places.
+// What is asked of an image alone, or of a kind's number. Values go to out-parameters.
 
 mod sizes;
 

@@ -41,7 +41,7 @@ abbrev pub stateWith : State → Bool → ChipRecord → List ℕ → State
 stateWith s dirty chip memory =
     record { cart = record { len = s .cart .len; kind = s .cart .kind; dirty = dirty; chip = chip }; memory = memory }
 
--- each chip with the memory and the flag, and the state behind a step of it
+-- each chip with the memory and the flag, and the state after a step of it
 abbrev pub flashOf : State → Held Flash
 flashOf s = record { chip = s .cart .chip .flash; memory = s .memory; dirty = s .cart .dirty }
 
@@ -96,7 +96,7 @@ abbrev pub exported : Option (List ℕ) → List ℕ → State → Outcome
 exported none d s = outcome [] s d
 exported (some f) d s = outcome (length f ∷ []) s (into f d)
 
--- which questions meet which call, in their order; the call is lent the destination d
+-- which questions each call asks, in their order; the call is passed the destination d
 abbrev pub question2 : State → Question
 question2 s = recordQuestion (s .cart)
 

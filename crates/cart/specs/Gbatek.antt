@@ -18,7 +18,7 @@ use Rattle.eeprom.specs.Gbatek.{bits, setAddress, writeBlock, bitsOfBytes, read
 use Rattle.cart.specs.Record.{State, fromBytes}
 use Rattle.cart.specs.Calls.{Call, saveRead, saveWrite, eepromBeginDma, eepromWrite, eepromRead, stateWith, flashOf, withFlash, eepromOf, withEeprom, withChip, step}
 
--- calls, one after the other: the first refusal or 0, all that they answer, and the state behind the last
+-- calls, one after the other: the first refusal or 0, all that they answer, and the state after the last
 pub record Ran : Type 0 where
   pub refusal : ℕ
   pub given : List ℕ
@@ -86,7 +86,7 @@ write w block word = eepromBeginDma (w + 67) ∷ map eepromWrite (writeBlock w b
 abbrev pub read : ℕ → ℕ → List Call
 read w block = (eepromBeginDma (w + 3) ∷ map eepromWrite (setAddress w block)) ++ replicate 68 eepromRead
 
--- the state behind a command: the flag, the halfwords told, the block named, the read place left, the memory
+-- the state after a command: the flag, the halfwords told, the block named, the read place left, the memory
 abbrev pub behind : State → Bool → ℕ → ℕ → ℕ → List ℕ → State
 behind s dirty words block place memory =
     let e = beginDma words (s .cart .chip .eeprom) in

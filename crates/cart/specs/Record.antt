@@ -15,13 +15,13 @@ use Rattle.cart.specs.declared.ChipRecord.{ChipRecord}
 use Rattle.cart.specs.declared.Cartridge.{Cartridge}
 use Rattle.cart.specs.ChipState.{chipBytes, fieldQuestions}
 
--- a cartridge record with the memory that is lent beside it
+-- a cartridge record with the memory that is passed with it
 pub record State : Type 0 where
   pub cart : Cartridge
   pub memory : List ℕ
 
 -- what a call returns and leaves: the number of a refusal or 0, the numbers that it answers, the answer of
--- `take_save_dirty`, record and memory, and the destination that it was lent
+-- `take_save_dirty`, record and memory, and the destination that it was passed
 pub record Outcome : Type 0 where
   pub refusal : ℕ
   pub given : List ℕ

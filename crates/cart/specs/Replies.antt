@@ -1,5 +1,5 @@
--- How a call returns what the machine answers: a refusal's number or 0, one number or 0, and the record; what it is
--- lent is left as the machine leaves it.
+-- How a call returns what the machine answers: a refusal's number or 0, one number or 0, and the record; each
+-- buffer is left as the machine leaves it.
 use mathlib.Core.Bool.{Bool}
 use mathlib.Core.List.{List, [], _∷_}
 use Prim.Native.Nat.{ℕ}
@@ -38,7 +38,7 @@ first (n ∷ l) = n
 abbrev pub replyOf : Outcome → Reply
 replyOf o = reply (o .refusal) (first (o .given)) (o .next .cart)
 
--- with the memory, and with the destination that the call was lent
+-- with the memory, and with the destination that the call was passed
 abbrev pub replied : Outcome → Reply × List ℕ
 replied o = (replyOf o, o .next .memory)
 

@@ -267,7 +267,7 @@ const TABLE: [u32; 256] = [
     0x2D02EF8D,
 ];
 
-// The table is lent: a constant that is indexed where it stands is built anew at each access.
+// The table is passed as a slice: a constant array that is indexed in place is built anew at each access.
 fn crc_over(table: &[u32; 256], s: &[u8]) -> u32
     requires { ⌜ isTable 0 (now table) ≡ true ⌝ }
     ensures { λ r. ⌜ r ≡ crc32·spec (now (s .entry)) ⌝ }

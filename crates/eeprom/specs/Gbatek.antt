@@ -30,7 +30,7 @@ bitsOfBytes (b ∷ s) = bits 8 b ++ bitsOfBytes s
 unfoldable pub readOut : List ℕ → List ℕ
 readOut block = replicate 4 0 ++ bitsOfBytes block
 
--- bits in, one after the other; n bits out, and the chip behind them
+-- bits in, one after the other; n bits out, and the chip after them
 unfoldable pub fed : List ℕ → Held Eeprom → Held Eeprom
 fed [] x = x
 fed (v ∷ vs) x = fed vs (bitIn x v)

@@ -1,4 +1,4 @@
-// The kind of an image: its game code, then the markers that stand in it, then its title.
+// The kind of an image: its game code, then the markers that occur in it, then its title.
 use crate::SaveType;
 ghost use mathlib.Core.Path.{_≡_};
 ghost use mathlib.Core.Bool.{_||_};
@@ -30,7 +30,7 @@ fn begins_at(s: &[u8], place: usize, p: &[u8]) -> bool
     begins(&s[place..], p)
 }
 
-// Whether the marker stands anywhere, however far back. Its first byte is looked at before the others.
+// Whether the marker occurs anywhere, however far back. Its first byte is tested before the others.
 pub fn contains(s: &[u8], marker: &[u8]) -> bool
     ensures { λ r. ⌜ r ≡ stands (now (marker .entry)) (now (s .entry)) ⌝ }
 {

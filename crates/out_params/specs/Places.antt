@@ -1,4 +1,4 @@
--- What a call leaves where a place was lent for a value; and the answers by number of the calls on an image.
+-- What a call leaves in an out-parameter; and the answers by number of the calls on an image.
 use mathlib.Core.Bool.{cond}
 use mathlib.Core.List.{List, [], _∷_}
 use Prim.Native.Nat.{ℕ}
