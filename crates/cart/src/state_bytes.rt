@@ -19,7 +19,8 @@ ghost use lib.Dec.{leb};
 ghost use lib.ListN.{length, drop};
 ghost use Rattle.lists.specs.Lists.{lowValue};
 ghost use Rattle.lists.specs.Questions.{asked};
-ghost use Rattle.cart.specs.ChipState.{phaseNumber, phaseOf, chipBytes, chipOf, stateSize, fieldQuestions, stateQuestions};
+ghost use Rattle.cart.specs.ChipState.{phaseNumber, phaseOf, chipBytes, chipOf};
+ghost use Rattle.cart.specs.ChipState.{stateSize, fieldQuestions, stateQuestions};
 
 pub fn phase_number(phase: EepromPhase) -> u8
     ensures { λ r. ⌜ r ≡ phaseNumber phase ⌝ }
