@@ -10,7 +10,7 @@ use Rattle.kind.specs.Kind.{memorySize}
 use Rattle.byte_step.specs.declared.ByteStep.{ByteStep}
 use Rattle.byte_step.specs.ByteStep.{readByte, writeStep}
 use Rattle.cart.specs.Calls.{saveRead, saveWrite, readSave, writeSave, questions, accepted}
-use Rattle.c_record.specs.RecordBytes.{recordBytes, cartOf, Valid}
+use Rattle.c_record.specs.RecordBytes.{cartOf, Valid}
 use Rattle.c_record.specs.Fields.{withFlash, withId}
 use Rattle.c_record.specs.AtExit.{plain, valueAt}
 use Rattle.c_record.specs.Calls.{reads, writes}

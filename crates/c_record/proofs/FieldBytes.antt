@@ -1,5 +1,5 @@
 -- Fields read from a record's bytes and written among them. Assumes nothing.
-use mathlib.Core.Path.{_≡_, refl, sym, ap, subst, _∙_}
+use mathlib.Core.Path.{_≡_, refl, sym, ap}
 use mathlib.Core.Bool.{Bool, true, false, _||_}
 use mathlib.Core.List.{List, _∷_, _++_}
 use Prim.Native.Nat.{ℕ, _/_, _%_}
@@ -16,7 +16,7 @@ use Rattle.cart.specs.declared.Cartridge.{Cartridge}
 use Rattle.cart.specs.ChipState.{bit, phaseNumber, chipBytes, chipOf}
 use Rattle.cart.specs.Replies.{chipRecord, cartWith}
 use Rattle.c_record.specs.RecordBytes.{recordBytes, cartOf, Valid}
-use Rattle.c_record.specs.Fields.{withFlash, withId, withWidth, withLarge, withAcc, withShift, withPlace, withEnded, withSerial}
+use Rattle.c_record.specs.Fields.{withFlash, withId, withWidth, withLarge, withShift, withPlace, withEnded, withSerial}
 
 pub flash-read : (r : List ℕ) → record { state = getD r 6 0; bank = getD r 7 0; id = eqb (getD r 8 0) 1 } ≡ cartOf r .chip .flash
 unfolding cartOf chipOf

@@ -16,11 +16,9 @@ use Rattle.lists.proofs.Bools.{split, and-left, and-right}
 use Rattle.lists.proofs.Digits.{low-back, low-forth, low-at, bytes-drop, bytes-take}
 use Rattle.lists.proofs.Parts.{rest, spelled, spells}
 use Rattle.image.specs.Image.{imageLength}
-use Rattle.kind.specs.declared.SaveType.{SaveType}
 use Rattle.kind.specs.declared.SaveType.the-variants.{None}
 use Rattle.kind.specs.Kind.{kindNumber}
 use Rattle.kind.proofs.Numbers.{kind-le, kind-back, kind-forth}
-use Rattle.cart.specs.declared.ChipRecord.{ChipRecord}
 use Rattle.cart.specs.declared.Cartridge.{Cartridge}
 use Rattle.cart.specs.ChipState.{bit, chipBytes, chipOf, fieldQuestions}
 use Rattle.cart.specs.Record.{recordAllowed, freshCart}

@@ -1,5 +1,5 @@
 -- A refused call leaves all that it was passed. Assumes nothing.
-use mathlib.Core.Path.{_≡_, refl, sym, ap, _∙_}
+use mathlib.Core.Path.{_≡_, refl, ap, _∙_}
 use mathlib.Core.Logic.{_≢_}
 use mathlib.Core.Bool.{true}
 use mathlib.Core.List.{List, [], _∷_}
@@ -9,7 +9,6 @@ use lib.Dec.{eqb}
 use lib.ListN.{length, replicate}
 use lib.Pow.{areBytes}
 use borrow.Author.Tests.{ne-eqb}
-use Rattle.out_params.specs.Places.{placed}
 use Rattle.lists.specs.Questions.{Question, asked}
 use Rattle.lists.proofs.Bools.{split}
 use Rattle.file_sizes.specs.SaveFit.{keptPart}

@@ -1,5 +1,5 @@
 -- `c_serial_calls::dma_valid` meets its contract. Assumes nothing.
-use mathlib.Core.Path.{sym, ap, _∙_}
+use mathlib.Core.Path.{ap, _∙_}
 use Rattle.lists.proofs.Bools.{denied, granted}
 use Rattle.eeprom.specs.declared.Eeprom.{Eeprom}
 use Rattle.eeprom.specs.Eeprom.{beginDma, dmaQuestion}

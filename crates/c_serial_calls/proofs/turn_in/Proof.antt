@@ -1,8 +1,7 @@
 -- `c_serial_calls::turn_in` meets its contract. Assumes nothing.
-use mathlib.Core.Path.{sym, subst, ap, ap₂, _∙_}
+use mathlib.Core.Path.{sym, subst, ap, _∙_}
 use mathlib.Core.Bool.{Bool}
-use mathlib.Core.List.{List, []}
-use Prim.Native.Nat.{ℕ}
+use mathlib.Core.List.{[]}
 use lib.ListN.{length}
 use Rattle.memory.specs.Memory.{stored, stores, Fits}
 use Rattle.eeprom.specs.declared.EepromStep.{EepromStep}

@@ -1,5 +1,4 @@
 -- `c_state_calls::states::copy_out` meets its contract. Assumes nothing.
-use mathlib.Core.Path.{_∙_}
 use native.Mathlib.Omega.{arith}
 use lib.ListN.{length-drop}
 use Rattle.c_state_calls.proofs.StateCalls.{copied-out}
