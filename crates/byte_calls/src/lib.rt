@@ -1,16 +1,8 @@
 // `save_read` and `save_write`: the byte calls by value.
 
-use byte_step::read_byte;
-use byte_step::write_byte;
 use cart::Cartridge;
 use cart::Reply;
-use cart::done;
-use cart::door;
-use cart::refuse;
-use cart::with_flash;
 use memory::NO_FILE;
-use memory::apply;
-use memory::flag_after;
 ghost use mathlib.Core.Path.{_≡_};
 ghost use mathlib.Core.List.{[]};
 ghost use lib.ListN.{length};
@@ -25,18 +17,18 @@ fn read_save(cart: Cartridge, memory: &[u8], address: u32) -> u8
     let kind = cart.kind;
     let chip = cart.chip;
     let flash = chip.flash;
-    read_byte(kind, flash, memory, address)
+    byte_step::read_byte(kind, flash, memory, address)
 }
 
 pub fn save_read(cart: Cartridge, memory: &[u8], address: u32) -> Reply
     ensures { λ r. ⌜ (r, now (memory .entry))
         ≡ replied (step (saveRead address) [] (state cart (now (memory .entry)))) ⌝ }
 {
-    let refusal = door(cart, memory.len());
+    let refusal = cart::door(cart, memory.len());
     if refusal != 0 {
-        return refuse(refusal, cart);
+        return cart::refuse(refusal, cart);
     }
-    done(read_save(cart, memory, address) as u32, cart)
+    cart::done(read_save(cart, memory, address) as u32, cart)
 }
 
 fn write_save(cart: Cartridge, memory: &mut [u8], address: u32, value: u8) -> Cartridge
@@ -47,20 +39,20 @@ fn write_save(cart: Cartridge, memory: &mut [u8], address: u32, value: u8) -> Ca
     let kind = cart.kind;
     let chip = cart.chip;
     let flash = chip.flash;
-    let t = write_byte(kind, flash, memory.len(), address, value);
+    let t = byte_step::write_byte(kind, flash, memory.len(), address, value);
     let store = t.store;
     let next = t.flash;
-    apply(store, &NO_FILE, memory);
-    with_flash(cart, flag_after(t.sets, cart.dirty), next)
+    memory::apply(store, &NO_FILE, memory);
+    cart::with_flash(cart, memory::flag_after(t.sets, cart.dirty), next)
 }
 
 pub fn save_write(cart: Cartridge, memory: &mut [u8], address: u32, value: u8) -> Reply
     ensures { λ r. ⌜ (r, now (memory .exit))
         ≡ replied (step (saveWrite address value) [] (state cart (now (memory .entry)))) ⌝ }
 {
-    let refusal = door(cart, memory.len());
+    let refusal = cart::door(cart, memory.len());
     if refusal != 0 {
-        return refuse(refusal, cart);
+        return cart::refuse(refusal, cart);
     }
-    done(0, write_save(cart, memory, address, value))
+    cart::done(0, write_save(cart, memory, address, value))
 }

@@ -2,20 +2,9 @@
 // `_any` is for every record. It is called last and at two places, so that the compiler leaves it out of line and
 // the quick way pays nothing for it.
 
-use byte_step::read_byte;
-use byte_step::write_byte;
 use c_record::RecordBytes;
-use c_record::flash_in;
-use c_record::is_record;
-use c_record::kind_in;
 use c_record::layout;
-use c_record::put_bit;
-use c_record::put_flash;
-use kind::memory_size;
 use memory::NO_FILE;
-use memory::apply;
-use quick_tests::bytes_usual;
-use quick_tests::known;
 ghost use mathlib.Core.Path.{_≡_};
 ghost use Rattle.c_record.specs.RecordBytes.{Valid};
 ghost use Rattle.c_record.specs.Calls.{reads, writes};
@@ -25,11 +14,11 @@ fn read_valid(cart: &RecordBytes, memory: &[u8], address: u32, value: &mut u32) 
     ensures { λ x. ⌜ (x, now (cart .entry), now (memory .entry), now (value .exit))
         ≡ reads address (now (cart .entry)) (now (memory .entry)) (now (value .entry)) ⌝ }
 {
-    let kind = kind_in(cart);
-    if memory.len() != memory_size(kind) {
+    let kind = c_record::kind_in(cart);
+    if memory.len() != kind::memory_size(kind) {
         return 3;
     }
-    *value = read_byte(kind, flash_in(cart), memory, address) as u32;
+    *value = byte_step::read_byte(kind, c_record::flash_in(cart), memory, address) as u32;
     0
 }
 
@@ -37,7 +26,7 @@ fn read_any(cart: &RecordBytes, memory: &[u8], address: u32, value: &mut u32) ->
     ensures { λ x. ⌜ (x, now (cart .entry), now (memory .entry), now (value .exit))
         ≡ reads address (now (cart .entry)) (now (memory .entry)) (now (value .entry)) ⌝ }
 {
-    if !is_record(cart) {
+    if !c_record::is_record(cart) {
         return 2;
     }
     read_valid(cart, &memory[..], address, value)
@@ -47,10 +36,10 @@ pub fn save_read(cart: &RecordBytes, memory: &[u8], address: u32, value: &mut u3
     ensures { λ x. ⌜ (x, now (cart .entry), now (memory .entry), now (value .exit))
         ≡ reads address (now (cart .entry)) (now (memory .entry)) (now (value .entry)) ⌝ }
 {
-    if !known(cart) {
+    if !quick_tests::known(cart) {
         return read_any(cart, memory, address, value);
     }
-    if !bytes_usual(cart) {
+    if !quick_tests::bytes_usual(cart) {
         return read_any(cart, memory, address, value);
     }
     read_valid(cart, memory, address, value)
@@ -62,17 +51,17 @@ fn write_valid(cart: &mut RecordBytes, memory: &mut [u8], address: u32, value: u
     ensures { λ x. ⌜ (x, now (cart .exit), now (memory .exit))
         ≡ writes address value (now (cart .entry)) (now (memory .entry)) ⌝ }
 {
-    let kind = kind_in(cart);
-    if memory.len() != memory_size(kind) {
+    let kind = c_record::kind_in(cart);
+    if memory.len() != kind::memory_size(kind) {
         return 3;
     }
-    let flash = flash_in(cart);
-    let t = write_byte(kind, flash, memory.len(), address, value);
+    let flash = c_record::flash_in(cart);
+    let t = byte_step::write_byte(kind, flash, memory.len(), address, value);
     let store = t.store;
     let next = t.flash;
-    put_flash(cart, t.sets, next);
-    apply(store, &NO_FILE, memory);
-    put_bit(cart, layout::ID_MODE, flash.id, next.id);
+    c_record::put_flash(cart, t.sets, next);
+    memory::apply(store, &NO_FILE, memory);
+    c_record::put_bit(cart, layout::ID_MODE, flash.id, next.id);
     0
 }
 
@@ -80,7 +69,7 @@ fn write_any(cart: &mut RecordBytes, memory: &mut [u8], address: u32, value: u8)
     ensures { λ x. ⌜ (x, now (cart .exit), now (memory .exit))
         ≡ writes address value (now (cart .entry)) (now (memory .entry)) ⌝ }
 {
-    if !is_record(cart) {
+    if !c_record::is_record(cart) {
         return 2;
     }
     write_valid(cart, &mut memory[..], address, value)
@@ -90,10 +79,10 @@ pub fn save_write(cart: &mut RecordBytes, memory: &mut [u8], address: u32, value
     ensures { λ x. ⌜ (x, now (cart .exit), now (memory .exit))
         ≡ writes address value (now (cart .entry)) (now (memory .entry)) ⌝ }
 {
-    if !known(cart) {
+    if !quick_tests::known(cart) {
         return write_any(cart, memory, address, value);
     }
-    if !bytes_usual(cart) {
+    if !quick_tests::bytes_usual(cart) {
         return write_any(cart, memory, address, value);
     }
     write_valid(cart, memory, address, value)

@@ -1,18 +1,8 @@
 // `load_save`, `save_data` and import on the bytes of a record.
 
 use c_record::RecordBytes;
-use c_record::is_record;
-use c_record::kind_in;
 use c_record::layout;
-use c_record::put_bit;
-use file_calls::file_length;
-use file_calls::large_after;
-use file_sizes::kept_part;
-use file_sizes::takes;
-use kind::memory_size;
 use memory::Store;
-use memory::apply;
-use memory::copy_file;
 ghost use mathlib.Core.Path.{_≡_};
 ghost use mathlib.Core.List.{[]};
 ghost use lib.ListN.{length};
@@ -30,19 +20,19 @@ fn load_valid(cart: &mut RecordBytes, memory: &mut [u8], file: &[u8])
         (stateOf (now (cart .entry)) (now (memory .entry))))) ⌝ }
 {
     let large = cart[layout::LARGE] == 1;
-    let next = large_after(kind_in(cart), large, file.len());
-    put_bit(cart, layout::LARGE, large, next);
-    apply(Store::File, file, memory);
+    let next = file_calls::large_after(c_record::kind_in(cart), large, file.len());
+    c_record::put_bit(cart, layout::LARGE, large, next);
+    memory::apply(Store::File, file, memory);
 }
 
 pub fn load_save(cart: &mut RecordBytes, memory: &mut [u8], file: &[u8]) -> u32
     ensures { λ x. ⌜ (x, now (cart .exit), now (memory .exit))
         ≡ loads (now (file .entry)) (now (cart .entry)) (now (memory .entry)) ⌝ }
 {
-    if !is_record(cart) {
+    if !quick_tests::is_record(cart) {
         return 2;
     }
-    if memory.len() != memory_size(kind_in(cart)) {
+    if memory.len() != kind::memory_size(c_record::kind_in(cart)) {
         return 3;
     }
     // a slice cut anew is passed in registers
@@ -54,18 +44,18 @@ pub fn save_data(cart: &RecordBytes, memory: &[u8], destination: &mut [u8], leng
     ensures { λ x. ⌜ (x, now (cart .entry), now (memory .entry), now (destination .exit), now (length .exit))
         ≡ exports (now (destination .entry)) (now (cart .entry)) (now (memory .entry)) (now (length .entry)) ⌝ }
 {
-    if !is_record(cart) {
+    if !c_record::is_record(cart) {
         return 2;
     }
-    let kind = kind_in(cart);
-    if memory.len() != memory_size(kind) {
+    let kind = c_record::kind_in(cart);
+    if memory.len() != kind::memory_size(kind) {
         return 3;
     }
-    let n = file_length(kind, cart[layout::LARGE] == 1);
+    let n = file_calls::file_length(kind, cart[layout::LARGE] == 1);
     if destination.len() < n {
         return 13;
     }
-    copy_file(destination, &memory[..n]);
+    memory::copy_file(destination, &memory[..n]);
     *length = n as u32;
     0
 }
@@ -75,17 +65,17 @@ pub fn import_save(cart: &mut RecordBytes, memory: &mut [u8], file: &[u8], kept:
     ensures { λ x. ⌜ (x, now (cart .exit), now (memory .exit), now (kept .exit))
         ≡ imports (now (file .entry)) (now (cart .entry)) (now (memory .entry)) (now (kept .entry)) ⌝ }
 {
-    if !is_record(cart) {
+    if !c_record::is_record(cart) {
         return 2;
     }
-    let kind = kind_in(cart);
-    if memory.len() != memory_size(kind) {
+    let kind = c_record::kind_in(cart);
+    if memory.len() != kind::memory_size(kind) {
         return 3;
     }
-    if !takes(kind, file.len()) {
+    if !file_sizes::takes(kind, file.len()) {
         return 14;
     }
-    let part = kept_part(kind, file);
+    let part = file_sizes::kept_part(kind, file);
     load_valid(cart, memory, part);
     *kept = part.len() as u32;
     0

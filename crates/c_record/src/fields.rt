@@ -1,12 +1,9 @@
 // What a call needs of a record's bytes.
 use crate::layout;
 use crate::layout::RecordBytes;
-use cart::chip_of;
 use eeprom::Eeprom;
 use flash::Flash;
 use kind::SaveType;
-use kind::kind_of;
-use lists::low32;
 ghost use mathlib.Core.Path.{_≡_};
 ghost use lib.ListN.{length};
 ghost use Rattle.c_record.specs.RecordBytes.{recordSize, cartOf};
@@ -14,13 +11,13 @@ ghost use Rattle.c_record.specs.RecordBytes.{recordSize, cartOf};
 pub fn len_in(cart: &RecordBytes) -> usize
     ensures { λ n. ⌜ n ≡ cartOf (now (cart .entry)) .len ⌝ }
 {
-    low32(cart[0], cart[1], cart[2], cart[3]) as usize
+    lists::low32(cart[0], cart[1], cart[2], cart[3]) as usize
 }
 
 pub fn kind_in(cart: &RecordBytes) -> SaveType
     ensures { λ k. ⌜ k ≡ cartOf (now (cart .entry)) .kind ⌝ }
 {
-    kind_of(cart[layout::KIND])
+    kind::kind_of(cart[layout::KIND])
 }
 
 pub fn flash_in(cart: &RecordBytes) -> Flash
@@ -37,7 +34,7 @@ fn eeprom_of(bytes: &[u8]) -> Eeprom
     requires { ⌜ length (now bytes) ≡ recordSize ⌝ }
     ensures { λ e. ⌜ e ≡ cartOf (now (bytes .entry)) .chip .eeprom ⌝ }
 {
-    let chip = chip_of(&bytes[layout::CHIP..]);
+    let chip = cart::chip_of(&bytes[layout::CHIP..]);
     chip.eeprom
 }
 

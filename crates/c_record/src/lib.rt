@@ -4,14 +4,11 @@ mod fields;
 pub mod layout;
 mod outward;
 
-use cart::field_questions;
 pub use fields::eeprom_in;
 pub use fields::flash_in;
 pub use fields::kind_in;
 pub use fields::len_in;
-use image::image_length;
 pub use layout::RecordBytes;
-use lists::low32;
 pub use outward::put_bit;
 pub use outward::put_eeprom;
 pub use outward::put_ended;
@@ -37,10 +34,10 @@ fn valid(bytes: &[u8]) -> bool
     if 1 < bytes[layout::DIRTY] {
         return false;
     }
-    if !image_length(low32(bytes[0], bytes[1], bytes[2], bytes[3]) as usize) {
+    if !image::image_length(lists::low32(bytes[0], bytes[1], bytes[2], bytes[3]) as usize) {
         return false;
     }
-    field_questions(&bytes[layout::CHIP..]) == 0
+    cart::field_questions(&bytes[layout::CHIP..]) == 0
 }
 
 pub fn is_record(cart: &RecordBytes) -> bool

@@ -2,12 +2,8 @@
 use crate::layout;
 use crate::layout::RecordBytes;
 use cart::Cartridge;
-use cart::bit;
-use cart::chip_bytes;
-use cart::phase_number;
 use eeprom::Eeprom;
 use flash::Flash;
-use kind::kind_number;
 ghost use mathlib.Core.Path.{_≡_};
 ghost use mathlib.Core.Bool.{cond};
 ghost use Prim.Native.Nat.{_<_};
@@ -60,7 +56,7 @@ pub fn put_width(cart: &mut RecordBytes, width: u8, large: bool)
     ensures { λ _. ⌜ now (cart .exit) ≡ withWidth (now (cart .entry)) width large ⌝ }
 {
     cart[layout::WIDTH] = width;
-    cart[layout::LARGE] = bit(large);
+    cart[layout::LARGE] = cart::bit(large);
 }
 
 fn put_acc(cart: &mut RecordBytes, acc: u64)
@@ -108,8 +104,8 @@ pub fn put_eeprom(cart: &mut RecordBytes, sets: bool, e: Eeprom)
     let phase = e.phase;
     let flag = cart[layout::DIRTY];
     cart[layout::WIDTH] = e.width;
-    cart[layout::LARGE] = bit(e.large);
-    cart[layout::PHASE] = phase_number(phase);
+    cart[layout::LARGE] = cart::bit(e.large);
+    cart[layout::PHASE] = cart::phase_number(phase);
     cart[layout::COUNT] = e.count;
     cart[layout::BLOCK] = (e.block % 256) as u8;
     cart[layout::BLOCK + 1] = (e.block / 256) as u8;
@@ -123,14 +119,14 @@ pub fn record_bytes(cart: Cartridge) -> RecordBytes
 {
     let kind = cart.kind;
     let chip = cart.chip;
-    let b = chip_bytes(chip);
+    let b = cart::chip_bytes(chip);
     [
         (cart.len % 256) as u8,
         (cart.len / 256 % 256) as u8,
         (cart.len / 65536 % 256) as u8,
         (cart.len / 16777216 % 256) as u8,
-        kind_number(kind) as u8,
-        bit(cart.dirty),
+        kind::kind_number(kind) as u8,
+        cart::bit(cart.dirty),
         b[0],
         b[1],
         b[2],

@@ -2,31 +2,10 @@
 // quick test; a function `_any` is for every record. It is called last and at two places, so that the compiler
 // leaves it out of line and the quick way pays nothing for it.
 use c_record::RecordBytes;
-use c_record::eeprom_in;
-use c_record::is_record;
-use c_record::kind_in;
-use c_record::put_eeprom;
-use c_record::put_ended;
-use c_record::put_place;
-use c_record::put_shift;
-use c_record::put_width;
 use eeprom::Drawn;
 use eeprom::Eeprom;
 use eeprom::Shifted;
-use eeprom::begin_dma;
-use eeprom::dma_allowed;
-use eeprom::draw;
-use eeprom::read_bit;
-use eeprom::shift;
-use eeprom::turn;
-use eeprom::w;
-use kind::memory_size;
-use kind::uses_eeprom;
 use memory::NO_FILE;
-use memory::apply;
-use memory::stores;
-use quick_tests::known;
-use quick_tests::serial_usual;
 ghost use mathlib.Core.Path.{_≡_};
 ghost use mathlib.Core.List.{List, []};
 ghost use Prim.Native.Nat.{ℕ, _<_};
@@ -42,19 +21,19 @@ fn dma_valid(cart: &mut RecordBytes, words: u32) -> u32
     requires { ⌜ Valid (now cart) ⌝ }
     ensures { λ x. ⌜ ((m : List ℕ) → (x, now (cart .exit), m) ≡ announces words (now (cart .entry)) m) ⌝ }
 {
-    let e = eeprom_in(cart);
-    if !dma_allowed(words as usize, e) {
+    let e = c_record::eeprom_in(cart);
+    if !eeprom::dma_allowed(words as usize, e) {
         return 5;
     }
-    let next = begin_dma(words as usize, e);
-    put_width(cart, next.width, next.large);
+    let next = eeprom::begin_dma(words as usize, e);
+    c_record::put_width(cart, next.width, next.large);
     0
 }
 
 fn dma_any(cart: &mut RecordBytes, words: u32) -> u32
     ensures { λ x. ⌜ ((m : List ℕ) → (x, now (cart .exit), m) ≡ announces words (now (cart .entry)) m) ⌝ }
 {
-    if !is_record(cart) {
+    if !c_record::is_record(cart) {
         return 2;
     }
     dma_valid(cart, words)
@@ -63,10 +42,10 @@ fn dma_any(cart: &mut RecordBytes, words: u32) -> u32
 pub fn eeprom_begin_dma(cart: &mut RecordBytes, words: u32) -> u32
     ensures { λ x. ⌜ ((m : List ℕ) → (x, now (cart .exit), m) ≡ announces words (now (cart .entry)) m) ⌝ }
 {
-    if !known(cart) {
+    if !quick_tests::known(cart) {
         return dma_any(cart, words);
     }
-    if !serial_usual(cart) {
+    if !quick_tests::serial_usual(cart) {
         return dma_any(cart, words);
     }
     dma_valid(cart, words)
@@ -79,11 +58,11 @@ fn turn_in(cart: &mut RecordBytes, memory: &mut [u8], e: Eeprom, acc: u64, b: u6
         ≡ withSerial (now (cart .entry)) (stores·spec (turned e acc b .store)) (turned e acc b .eeprom) ⌝ }
     ensures { λ _. ⌜ now (memory .exit) ≡ stored (turned e acc b .store) [] (now (memory .entry)) ⌝ }
 {
-    let t = turn(e, acc, b);
+    let t = eeprom::turn(e, acc, b);
     let store = t.store;
     let next = t.eeprom;
-    put_eeprom(cart, stores(store), next);
-    apply(store, &NO_FILE, memory);
+    c_record::put_eeprom(cart, memory::stores(store), next);
+    memory::apply(store, &NO_FILE, memory);
 }
 
 fn write_valid(cart: &mut RecordBytes, memory: &mut [u8], value: u16) -> u32
@@ -91,20 +70,20 @@ fn write_valid(cart: &mut RecordBytes, memory: &mut [u8], value: u16) -> u32
     ensures { λ x. ⌜
         (x, now (cart .exit), now (memory .exit)) ≡ takesBit value (now (cart .entry)) (now (memory .entry)) ⌝ }
 {
-    let kind = kind_in(cart);
-    if memory.len() != memory_size(kind) {
+    let kind = c_record::kind_in(cart);
+    if memory.len() != kind::memory_size(kind) {
         return 3;
     }
-    if !uses_eeprom(kind) {
+    if !kind::uses_eeprom(kind) {
         return 4;
     }
     let b = (value % 2) as u64;
-    let e = eeprom_in(cart);
+    let e = c_record::eeprom_in(cart);
     let phase = e.phase;
-    let s = shift(phase, e.count, w(e.width, e.large), e.acc, b);
+    let s = eeprom::shift(phase, e.count, eeprom::w(e.width, e.large), e.acc, b);
     match s {
         Shifted::More(acc, count) => {
-            put_shift(cart, count, acc);
+            c_record::put_shift(cart, count, acc);
             0
         }
         Shifted::Full(acc) => {
@@ -118,7 +97,7 @@ fn write_any(cart: &mut RecordBytes, memory: &mut [u8], value: u16) -> u32
     ensures { λ x. ⌜
         (x, now (cart .exit), now (memory .exit)) ≡ takesBit value (now (cart .entry)) (now (memory .entry)) ⌝ }
 {
-    if !is_record(cart) {
+    if !c_record::is_record(cart) {
         return 2;
     }
     write_valid(cart, &mut memory[..], value)
@@ -128,10 +107,10 @@ pub fn eeprom_write(cart: &mut RecordBytes, memory: &mut [u8], value: u16) -> u3
     ensures { λ x. ⌜
         (x, now (cart .exit), now (memory .exit)) ≡ takesBit value (now (cart .entry)) (now (memory .entry)) ⌝ }
 {
-    if !known(cart) {
+    if !quick_tests::known(cart) {
         return write_any(cart, memory, value);
     }
-    if !serial_usual(cart) {
+    if !quick_tests::serial_usual(cart) {
         return write_any(cart, memory, value);
     }
     write_valid(cart, memory, value)
@@ -142,22 +121,22 @@ fn read_valid(cart: &mut RecordBytes, memory: &[u8], bit: &mut u32) -> u32
     ensures { λ x. ⌜ (x, now (cart .exit), now (memory .entry), now (bit .exit))
         ≡ givesBit (now (cart .entry)) (now (memory .entry)) (now (bit .entry)) ⌝ }
 {
-    let kind = kind_in(cart);
-    if memory.len() != memory_size(kind) {
+    let kind = c_record::kind_in(cart);
+    if memory.len() != kind::memory_size(kind) {
         return 3;
     }
-    let e = eeprom_in(cart);
+    let e = c_record::eeprom_in(cart);
     let phase = e.phase;
-    *bit = read_bit(uses_eeprom(kind), e, memory) as u32;
-    let d = draw(phase, e.place);
+    *bit = eeprom::read_bit(kind::uses_eeprom(kind), e, memory) as u32;
+    let d = eeprom::draw(phase, e.place);
     match d {
         Drawn::Nothing => 0,
         Drawn::Place(place) => {
-            put_place(cart, place);
+            c_record::put_place(cart, place);
             0
         }
         Drawn::Ended => {
-            put_ended(cart);
+            c_record::put_ended(cart);
             0
         }
     }
@@ -167,7 +146,7 @@ fn read_any(cart: &mut RecordBytes, memory: &[u8], bit: &mut u32) -> u32
     ensures { λ x. ⌜ (x, now (cart .exit), now (memory .entry), now (bit .exit))
         ≡ givesBit (now (cart .entry)) (now (memory .entry)) (now (bit .entry)) ⌝ }
 {
-    if !is_record(cart) {
+    if !c_record::is_record(cart) {
         return 2;
     }
     read_valid(cart, &memory[..], bit)
@@ -177,10 +156,10 @@ pub fn eeprom_read(cart: &mut RecordBytes, memory: &[u8], bit: &mut u32) -> u32
     ensures { λ x. ⌜ (x, now (cart .exit), now (memory .entry), now (bit .exit))
         ≡ givesBit (now (cart .entry)) (now (memory .entry)) (now (bit .entry)) ⌝ }
 {
-    if !known(cart) {
+    if !quick_tests::known(cart) {
         return read_any(cart, memory, bit);
     }
-    if !serial_usual(cart) {
+    if !quick_tests::serial_usual(cart) {
         return read_any(cart, memory, bit);
     }
     read_valid(cart, memory, bit)

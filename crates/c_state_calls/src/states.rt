@@ -1,11 +1,7 @@
 // Opening, `chip_state` and restore.
 use c_record::RecordBytes;
-use c_record::is_record;
 use c_record::layout;
-use c_record::record_bytes;
 use cart::StateBytes;
-use cart::state_questions;
-use memory::copy_file;
 ghost use mathlib.Core.Path.{_≡_};
 ghost use mathlib.Core.List.{List, _++_};
 ghost use Prim.Native.Nat.{ℕ};
@@ -21,7 +17,7 @@ pub fn from_bytes(cart: &mut RecordBytes, image: &[u8], memory: &mut [u8]) -> u3
 {
     let opened = state_calls::from_bytes(image, memory);
     let next = opened.cart;
-    *cart = record_bytes(next);
+    *cart = c_record::record_bytes(next);
     opened.refusal as u32
 }
 
@@ -30,14 +26,14 @@ fn copy_out(cart: &[u8], bytes: &mut [u8])
     requires { ⌜ (length (now cart) ≡ recordSize) × (length (now bytes) ≡ stateSize) ⌝ }
     ensures { λ _. ⌜ now (bytes .exit) ≡ drop chipAt (now (cart .entry)) ⌝ }
 {
-    copy_file(bytes, &cart[layout::CHIP..]);
+    memory::copy_file(bytes, &cart[layout::CHIP..]);
 }
 
 fn copy_in(cart: &mut [u8], bytes: &[u8])
     requires { ⌜ (length (now cart) ≡ recordSize) × (length (now bytes) ≡ stateSize) ⌝ }
     ensures { λ _. ⌜ now (cart .exit) ≡ take chipAt (now (cart .entry)) ++ now (bytes .entry) ⌝ }
 {
-    copy_file(&mut cart[layout::CHIP..], bytes);
+    memory::copy_file(&mut cart[layout::CHIP..], bytes);
 }
 
 // The calls below take no memory; their contracts hold for any memory.
@@ -46,7 +42,7 @@ pub fn chip_state(cart: &RecordBytes, bytes: &mut StateBytes) -> u32
         (x, now (cart .entry), m, now (bytes .exit))
         ≡ givesState (now (cart .entry)) m (now (bytes .entry))) ⌝ }
 {
-    if !is_record(cart) {
+    if !c_record::is_record(cart) {
         return 2;
     }
     copy_out(&cart[..], &mut bytes[..]);
@@ -58,10 +54,10 @@ pub fn restore_chip_state(cart: &mut RecordBytes, bytes: &[u8]) -> u32
         (x, now (cart .exit), m)
         ≡ restores (now (bytes .entry)) (now (cart .entry)) m) ⌝ }
 {
-    if !is_record(cart) {
+    if !c_record::is_record(cart) {
         return 2;
     }
-    let refusal = state_questions(bytes);
+    let refusal = cart::state_questions(bytes);
     if refusal != 0 {
         return refusal as u32;
     }

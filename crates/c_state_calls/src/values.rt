@@ -1,11 +1,6 @@
 // What a record tells in one number: its changed flag, whether its kind has an EEPROM, and where that starts.
 use c_record::RecordBytes;
-use c_record::is_record;
-use c_record::kind_in;
 use c_record::layout;
-use c_record::len_in;
-use cart::bit;
-use kind::window_start;
 ghost use mathlib.Core.Path.{_≡_};
 ghost use mathlib.Core.List.{List};
 ghost use Prim.Native.Nat.{ℕ};
@@ -17,7 +12,7 @@ pub fn take_save_dirty(cart: &mut RecordBytes, flag: &mut u32) -> u32
         (x, now (cart .exit), m, now (flag .exit))
         ≡ takesFlag (now (cart .entry)) m (now (flag .entry))) ⌝ }
 {
-    if !is_record(cart) {
+    if !c_record::is_record(cart) {
         return 2;
     }
     *flag = cart[layout::DIRTY] as u32;
@@ -28,19 +23,19 @@ pub fn take_save_dirty(cart: &mut RecordBytes, flag: &mut u32) -> u32
 pub fn uses_eeprom(cart: &RecordBytes, answer: &mut u32) -> u32
     ensures { λ x. ⌜ (x, now (answer .exit)) ≡ tellsEeprom (now (cart .entry)) (now (answer .entry)) ⌝ }
 {
-    if !is_record(cart) {
+    if !c_record::is_record(cart) {
         return 2;
     }
-    *answer = bit(kind::uses_eeprom(kind_in(cart))) as u32;
+    *answer = cart::bit(kind::uses_eeprom(c_record::kind_in(cart))) as u32;
     0
 }
 
 pub fn eeprom_window_start(cart: &RecordBytes, start: &mut u32) -> u32
     ensures { λ x. ⌜ (x, now (start .exit)) ≡ tellsWindow (now (cart .entry)) (now (start .entry)) ⌝ }
 {
-    if !is_record(cart) {
+    if !c_record::is_record(cart) {
         return 2;
     }
-    *start = window_start(len_in(cart));
+    *start = kind::window_start(c_record::len_in(cart));
     0
 }

@@ -2,17 +2,8 @@
 
 use cart::Cartridge;
 use cart::Reply;
-use cart::done;
-use cart::door;
-use cart::refuse;
-use cart::with_eeprom;
-use eeprom::told;
 use kind::SaveType;
-use kind::memory_size;
-use kind::uses_eeprom;
 use memory::Store;
-use memory::apply;
-use memory::copy_file;
 ghost use mathlib.Core.Path.{_≡_};
 ghost use mathlib.Core.List.{[]};
 ghost use lib.ListN.{length};
@@ -28,7 +19,7 @@ pub fn large_after(kind: SaveType, large: bool, n: usize) -> bool
     if large {
         return true;
     }
-    if !uses_eeprom(kind) {
+    if !kind::uses_eeprom(kind) {
         return false;
     }
     512 < n
@@ -43,11 +34,11 @@ fn load(cart: Cartridge, memory: &mut [u8], file: &[u8]) -> Cartridge
     let kind = cart.kind;
     let chip = cart.chip;
     let e = chip.eeprom;
-    apply(Store::File, file, memory);
-    with_eeprom(
+    memory::apply(Store::File, file, memory);
+    cart::with_eeprom(
         cart,
         cart.dirty,
-        told(e.width, large_after(kind, e.large, file.len()), e),
+        eeprom::told(e.width, large_after(kind, e.large, file.len()), e),
     )
 }
 
@@ -55,11 +46,11 @@ pub fn load_save(cart: Cartridge, memory: &mut [u8], file: &[u8]) -> Reply
     ensures { λ r. ⌜ (r, now (memory .exit))
         ≡ replied (step (loadSave (now (file .entry))) [] (state cart (now (memory .entry)))) ⌝ }
 {
-    let refusal = door(cart, memory.len());
+    let refusal = cart::door(cart, memory.len());
     if refusal != 0 {
-        return refuse(refusal, cart);
+        return cart::refuse(refusal, cart);
     }
-    done(0, load(cart, memory, file))
+    cart::done(0, load(cart, memory, file))
 }
 
 fn eeprom_length(large: bool) -> usize
@@ -72,10 +63,10 @@ fn eeprom_length(large: bool) -> usize
 pub fn file_length(kind: SaveType, large: bool) -> usize
     ensures { λ r. ⌜ r ≡ fileLength kind large ⌝ }
 {
-    if uses_eeprom(kind) {
+    if kind::uses_eeprom(kind) {
         return eeprom_length(large);
     }
-    memory_size(kind)
+    kind::memory_size(kind)
 }
 
 // Writes the file to the front of the destination and answers its length.
@@ -83,17 +74,17 @@ pub fn save_data(cart: Cartridge, memory: &[u8], destination: &mut [u8]) -> Repl
     ensures { λ r. ⌜ (r, now (destination .exit))
         ≡ exportReplied (step saveData (now (destination .entry)) (state cart (now (memory .entry)))) ⌝ }
 {
-    let refusal = door(cart, memory.len());
+    let refusal = cart::door(cart, memory.len());
     if refusal != 0 {
-        return refuse(refusal, cart);
+        return cart::refuse(refusal, cart);
     }
     let kind = cart.kind;
     let chip = cart.chip;
     let e = chip.eeprom;
     let n = file_length(kind, e.large);
     if destination.len() < n {
-        return refuse(13, cart);
+        return cart::refuse(13, cart);
     }
-    copy_file(destination, &memory[..n]);
-    done(n as u32, cart)
+    memory::copy_file(destination, &memory[..n]);
+    cart::done(n as u32, cart)
 }

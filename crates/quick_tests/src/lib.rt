@@ -3,11 +3,6 @@
 // one at a time, since a wider load would stall.
 use c_record::RecordBytes;
 use c_record::layout;
-use eeprom::width_allowed;
-use flash::state_allowed;
-use image::image_length;
-use lists::low32;
-use lists::low64;
 ghost use mathlib.Core.Path.{_≡_};
 ghost use mathlib.Core.Bool.{Bool, true};
 ghost use Prim.Native.Nat.{_≤_};
@@ -25,7 +20,7 @@ fn known_in(bytes: &[u8]) -> bool
     if 5 < bytes[layout::KIND] {
         return false;
     }
-    image_length(low32(bytes[0], bytes[1], bytes[2], bytes[3]) as usize)
+    image::image_length(lists::low32(bytes[0], bytes[1], bytes[2], bytes[3]) as usize)
 }
 
 // Kind and image length are allowed.
@@ -41,14 +36,14 @@ fn serial_rests(bytes: &[u8]) -> bool
     requires { ⌜ length (now bytes) ≡ recordSize ⌝ }
     ensures { λ b. ⌜ (b ≡ true → (getD (now (bytes .entry)) idAt 0 ≤ 1) × SerialRests (now (bytes .entry))) ⌝ }
 {
-    low64(
-        low32(
+    lists::low64(
+        lists::low32(
             bytes[layout::ID_MODE],
             bytes[layout::WIDTH],
             bytes[layout::LARGE],
             bytes[layout::PHASE],
         ),
-        low32(
+        lists::low32(
             bytes[layout::COUNT],
             bytes[layout::BLOCK],
             bytes[layout::BLOCK + 1],
@@ -71,7 +66,7 @@ fn bytes_usual_in(bytes: &[u8]) -> bool
     if !serial_rests(bytes) {
         return false;
     }
-    state_allowed(bytes[layout::FLASH_STATE])
+    flash::state_allowed(bytes[layout::FLASH_STATE])
 }
 
 // For the byte calls: the serial chip is at rest.
@@ -87,7 +82,7 @@ fn fields_usual(bytes: &[u8]) -> bool
     ensures { λ b. ⌜ (b ≡ true → FieldsUsual (now (bytes .entry))) ⌝ }
 {
     if 1
-        < low32(
+        < lists::low32(
             bytes[layout::DIRTY],
             bytes[layout::FLASH_STATE],
             bytes[layout::BANK],
@@ -99,7 +94,7 @@ fn fields_usual(bytes: &[u8]) -> bool
     if 1 < bytes[layout::LARGE] {
         return false;
     }
-    if !width_allowed(bytes[layout::WIDTH]) {
+    if !eeprom::width_allowed(bytes[layout::WIDTH]) {
         return false;
     }
     if 3 < bytes[layout::BLOCK + 1] {
@@ -143,4 +138,17 @@ pub fn serial_usual(cart: &RecordBytes) -> bool
         cart[layout::COUNT],
         cart[layout::WIDTH],
     )
+}
+
+// Question 2, of records whose flash chip is usually at rest.
+pub fn is_record(cart: &RecordBytes) -> bool
+    ensures { λ b. ⌜ b ≡ isRecord (now (cart .entry)) ⌝ }
+    ensures { λ _. ⌜ (isRecord (now (cart .entry)) ≡ true → Valid (now (cart .entry))) ⌝ }
+{
+    if known(cart) {
+        if serial_usual(cart) {
+            return true;
+        }
+    }
+    c_record::is_record(cart)
 }

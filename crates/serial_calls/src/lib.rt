@@ -2,21 +2,7 @@
 
 use cart::Cartridge;
 use cart::Reply;
-use cart::done;
-use cart::door;
-use cart::record_allowed;
-use cart::refuse;
-use cart::with_eeprom;
-use eeprom::after_read;
-use eeprom::begin_dma;
-use eeprom::dma_allowed;
-use eeprom::read_bit;
-use eeprom::write_bit;
-use kind::uses_eeprom;
 use memory::NO_FILE;
-use memory::apply;
-use memory::flag_after;
-use memory::stores;
 ghost use mathlib.Core.Path.{_≡_};
 ghost use mathlib.Core.Bool.{true};
 ghost use mathlib.Core.List.{List, []};
@@ -32,15 +18,18 @@ ghost use Rattle.cart.specs.Replies.{state, replied};
 pub fn eeprom_begin_dma(cart: Cartridge, words: usize) -> Reply
     ensures { λ r. ⌜ ((m : List ℕ) → (r, m) ≡ replied (step (eepromBeginDma words) [] (state cart m))) ⌝ }
 {
-    if !record_allowed(cart) {
-        return refuse(2, cart);
+    if !cart::record_allowed(cart) {
+        return cart::refuse(2, cart);
     }
     let chip = cart.chip;
     let e = chip.eeprom;
-    if !dma_allowed(words, e) {
-        return refuse(5, cart);
+    if !eeprom::dma_allowed(words, e) {
+        return cart::refuse(5, cart);
     }
-    done(0, with_eeprom(cart, cart.dirty, begin_dma(words, e)))
+    cart::done(
+        0,
+        cart::with_eeprom(cart, cart.dirty, eeprom::begin_dma(words, e)),
+    )
 }
 
 // An accepted `eeprom_write`.
@@ -53,38 +42,45 @@ fn bit_in(cart: Cartridge, memory: &mut [u8], value: u16) -> Cartridge
 {
     let chip = cart.chip;
     let e = chip.eeprom;
-    let t = write_bit(e, (value % 2) as u64);
+    let t = eeprom::write_bit(e, (value % 2) as u64);
     let store = t.store;
     let next = t.eeprom;
-    apply(store, &NO_FILE, memory);
-    with_eeprom(cart, flag_after(stores(store), cart.dirty), next)
+    memory::apply(store, &NO_FILE, memory);
+    cart::with_eeprom(
+        cart,
+        memory::flag_after(memory::stores(store), cart.dirty),
+        next,
+    )
 }
 
 pub fn eeprom_write(cart: Cartridge, memory: &mut [u8], value: u16) -> Reply
     ensures { λ r. ⌜ (r, now (memory .exit))
         ≡ replied (step (eepromWrite value) [] (state cart (now (memory .entry)))) ⌝ }
 {
-    let refusal = door(cart, memory.len());
+    let refusal = cart::door(cart, memory.len());
     if refusal != 0 {
-        return refuse(refusal, cart);
+        return cart::refuse(refusal, cart);
     }
     let kind = cart.kind;
-    if !uses_eeprom(kind) {
-        return refuse(4, cart);
+    if !kind::uses_eeprom(kind) {
+        return cart::refuse(4, cart);
     }
-    done(0, bit_in(cart, memory, value))
+    cart::done(0, bit_in(cart, memory, value))
 }
 
 pub fn eeprom_read(cart: Cartridge, memory: &[u8]) -> Reply
     ensures { λ r. ⌜ (r, now (memory .entry)) ≡ replied (step eepromRead [] (state cart (now (memory .entry)))) ⌝ }
 {
-    let refusal = door(cart, memory.len());
+    let refusal = cart::door(cart, memory.len());
     if refusal != 0 {
-        return refuse(refusal, cart);
+        return cart::refuse(refusal, cart);
     }
     let kind = cart.kind;
     let chip = cart.chip;
     let e = chip.eeprom;
-    let value = read_bit(uses_eeprom(kind), e, memory);
-    done(value as u32, with_eeprom(cart, cart.dirty, after_read(e)))
+    let value = eeprom::read_bit(kind::uses_eeprom(kind), e, memory);
+    cart::done(
+        value as u32,
+        cart::with_eeprom(cart, cart.dirty, eeprom::after_read(e)),
+    )
 }
