@@ -1,13 +1,8 @@
 // A byte read and a byte written, by the kind: the one place in which the kinds are told apart for them.
 
 use flash::Flash;
-use flash::flash_write;
-use flash::id_byte;
-use flash::shown_byte;
 use kind::SaveType;
-use kind::kind_number;
 use memory::Store;
-use memory::stores;
 ghost use mathlib.Core.Path.{_≡_};
 ghost use Prim.Native.Nat.{_<_};
 ghost use lib.ListN.{length};
@@ -28,7 +23,7 @@ const ID_WORDS: [u16; 6] = [0, 0, 0x1B32, 0x1362, 0, 0];
 fn id_word(kind: SaveType) -> u16
     ensures { λ r. ⌜ r ≡ idWord kind ⌝ }
 {
-    ID_WORDS[kind_number(kind)]
+    ID_WORDS[kind::kind_number(kind)]
 }
 
 fn read_flash(kind: SaveType, flash: Flash, memory: &[u8], address: u32) -> u8
@@ -36,9 +31,9 @@ fn read_flash(kind: SaveType, flash: Flash, memory: &[u8], address: u32) -> u8
     ensures { λ r. ⌜ r ≡ flashRead (idWord kind) flash (now (memory .entry)) address ⌝ }
 {
     if flash.id {
-        return id_byte(id_word(kind), address);
+        return flash::id_byte(id_word(kind), address);
     }
-    shown_byte(flash, memory, address)
+    flash::shown_byte(flash, memory, address)
 }
 
 pub fn read_byte(kind: SaveType, flash: Flash, memory: &[u8], address: u32) -> u8
@@ -67,10 +62,10 @@ fn flash_step(flash: Flash, n: usize, address: u32, value: u8) -> ByteStep
     requires { ⌜ 0 < n ⌝ }
     ensures { λ r. ⌜ r ≡ ofFlash (flashWrite flash n address value) ⌝ }
 {
-    let t = flash_write(flash, n, address, value);
+    let t = flash::flash_write(flash, n, address, value);
     let store = t.store;
     let next = t.flash;
-    step_to(next, stores(store), store)
+    step_to(next, memory::stores(store), store)
 }
 
 // In a memory of n bytes. The kinds are in groups, of which the compiler makes tests and no jump table.

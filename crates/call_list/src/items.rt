@@ -1,8 +1,6 @@
 // The item at the front of an encoded list, how many bytes it takes there, and how many its answer takes.
 use crate::Item;
 use cart::STATE_SIZE;
-use lists::low16;
-use lists::low32;
 ghost use mathlib.Core.Path.{_≡_};
 ghost use Prim.Native.Nat.{_+_, _≤_, _<_};
 ghost use lib.ListN.{length, getD};
@@ -15,14 +13,14 @@ fn high16(l: &[u8]) -> u16
     requires { ⌜ 3 ≤ length (now l) ⌝ }
     ensures { λ r. ⌜ r ≡ high16·spec (now (l .entry)) ⌝ }
 {
-    low16(l[2], l[1])
+    lists::low16(l[2], l[1])
 }
 
 fn high32(l: &[u8]) -> u32
     requires { ⌜ 5 ≤ length (now l) ⌝ }
     ensures { λ r. ⌜ r ≡ high32·spec (now (l .entry)) ⌝ }
 {
-    low32(l[4], l[3], l[2], l[1])
+    lists::low32(l[4], l[3], l[2], l[1])
 }
 
 fn read_in(l: &[u8]) -> Item

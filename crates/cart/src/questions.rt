@@ -1,12 +1,6 @@
 // Questions 2 and 3.
 use crate::Cartridge;
 use crate::ChipRecord;
-use eeprom::count_limit;
-use eeprom::w;
-use eeprom::width_allowed;
-use flash::state_allowed;
-use image::image_length;
-use kind::memory_size;
 ghost use mathlib.Core.Path.{_≡_};
 ghost use Rattle.cart.specs.Record.{chipAllowed, recordAllowed, doorNumber};
 
@@ -16,13 +10,13 @@ fn chip_allowed(chip: ChipRecord) -> bool
     let flash = chip.flash;
     let e = chip.eeprom;
     let phase = e.phase;
-    if !state_allowed(flash.state) {
+    if !flash::state_allowed(flash.state) {
         return false;
     }
     if 1 < flash.bank {
         return false;
     }
-    if !width_allowed(e.width) {
+    if !eeprom::width_allowed(e.width) {
         return false;
     }
     if 1023 < e.block {
@@ -31,13 +25,13 @@ fn chip_allowed(chip: ChipRecord) -> bool
     if 67 < e.place {
         return false;
     }
-    e.count < count_limit(phase, w(e.width, e.large))
+    e.count < eeprom::count_limit(phase, eeprom::w(e.width, e.large))
 }
 
 pub fn record_allowed(cart: Cartridge) -> bool
     ensures { λ r. ⌜ r ≡ recordAllowed cart ⌝ }
 {
-    if !image_length(cart.len) {
+    if !image::image_length(cart.len) {
         return false;
     }
     let chip = cart.chip;
@@ -52,7 +46,7 @@ pub fn door(cart: Cartridge, n: usize) -> u8
         return 2;
     }
     let kind = cart.kind;
-    if n != memory_size(kind) {
+    if n != kind::memory_size(kind) {
         return 3;
     }
     0

@@ -5,14 +5,7 @@ use crate::layout;
 use crate::layout::StateBytes;
 use eeprom::Eeprom;
 use eeprom::EepromPhase;
-use eeprom::count_limit;
-use eeprom::w;
-use eeprom::width_allowed;
 use flash::Flash;
-use flash::state_allowed;
-use lists::low16;
-use lists::low32;
-use lists::low64;
 ghost use mathlib.Core.Path.{_≡_};
 ghost use mathlib.Core.Bool.{_&&_};
 ghost use lib.Dec.{leb};
@@ -83,14 +76,14 @@ fn acc_of(b: &[u8]) -> u64
     requires { ⌜ length (now b) ≡ stateSize ⌝ }
     ensures { λ r. ⌜ r ≡ lowValue (drop 10 (now (b .entry))) ⌝ }
 {
-    low64(
-        low32(
+    lists::low64(
+        lists::low32(
             b[layout::ACC],
             b[layout::ACC + 1],
             b[layout::ACC + 2],
             b[layout::ACC + 3],
         ),
-        low32(
+        lists::low32(
             b[layout::ACC + 4],
             b[layout::ACC + 5],
             b[layout::ACC + 6],
@@ -115,7 +108,7 @@ pub fn chip_of(b: &[u8]) -> ChipRecord
             large: b[layout::LARGE] == 1,
             phase: phase_of(b[layout::PHASE]),
             count: b[layout::COUNT],
-            block: low16(b[layout::BLOCK], b[layout::BLOCK + 1]),
+            block: lists::low16(b[layout::BLOCK], b[layout::BLOCK + 1]),
             place: b[layout::PLACE],
             acc: acc_of(b),
         },
@@ -130,26 +123,26 @@ pub fn field_questions(b: &[u8]) -> u8
     if 6 < b[layout::PHASE] {
         return 7;
     }
-    if !state_allowed(b[layout::FLASH_STATE]) {
+    if !flash::state_allowed(b[layout::FLASH_STATE]) {
         return 8;
     }
     if !flags_allowed(b[layout::BANK], b[layout::ID_MODE], b[layout::LARGE]) {
         return 9;
     }
-    if !width_allowed(b[layout::WIDTH]) {
+    if !eeprom::width_allowed(b[layout::WIDTH]) {
         return 10;
     }
     if !places_allowed(
         b[layout::COUNT],
-        low16(b[layout::BLOCK], b[layout::BLOCK + 1]),
+        lists::low16(b[layout::BLOCK], b[layout::BLOCK + 1]),
         b[layout::PLACE],
     ) {
         return 11;
     }
     if b[layout::COUNT]
-        < count_limit(
+        < eeprom::count_limit(
             phase_of(b[layout::PHASE]),
-            w(b[layout::WIDTH], b[layout::LARGE] == 1),
+            eeprom::w(b[layout::WIDTH], b[layout::LARGE] == 1),
         )
     {
         return 0;

@@ -1,11 +1,6 @@
 // A cut, made by the real calls: export and `chip_state`, then opening, load and restore.
 
 use cart::Cartridge;
-use file_calls::load_save;
-use file_calls::save_data;
-use state_calls::chip_state;
-use state_calls::from_bytes;
-use state_calls::restore_chip_state;
 ghost use mathlib.Core.Path.{_≡_};
 ghost use mathlib.Core.Bool.{true};
 ghost use Prim.Native.Nat.{_≤_};
@@ -24,7 +19,7 @@ fn load_where_there_is_one(cart: Cartridge, memory: &mut [u8], file: &[u8]) -> C
     if file.len() == 0 {
         return cart;
     }
-    let loaded = load_save(cart, memory, file);
+    let loaded = file_calls::load_save(cart, memory, file);
     loaded.cart
 }
 
@@ -33,10 +28,10 @@ fn resume(image: &[u8], memory: &mut [u8], file: &[u8], bytes: &[u8]) -> Cartrid
     ensures { λ r. ⌜ state r (now (memory .exit))
         ≡ resumed (now (image .entry)) (now (memory .entry)) (now (file .entry)) (now (bytes .entry)) ⌝ }
 {
-    let opened = from_bytes(image, memory);
+    let opened = state_calls::from_bytes(image, memory);
     let fresh = opened.cart;
     let loaded = load_where_there_is_one(fresh, memory, file);
-    let restored = restore_chip_state(loaded, bytes);
+    let restored = state_calls::restore_chip_state(loaded, bytes);
     restored.cart
 }
 
@@ -49,9 +44,9 @@ pub fn cut(image: &[u8], cart: Cartridge, memory: &mut [u8], scratch: &mut [u8])
         ≡ cut·spec (now (image .entry)) (now (memory .entry)) (state cart (now (memory .entry))) ⌝ }
 {
     let n = memory.len();
-    let exported = save_data(cart, memory, &mut scratch[..n]);
+    let exported = file_calls::save_data(cart, memory, &mut scratch[..n]);
     let len = exported.value as usize;
-    let kept = chip_state(cart);
+    let kept = state_calls::chip_state(cart);
     let bytes = kept.bytes;
     resume(image, memory, &scratch[..len], &bytes)
 }

@@ -12,7 +12,6 @@ pub use output::after_read;
 pub use output::draw;
 pub use output::read_bit;
 pub use phases::count_limit;
-use phases::is_address;
 ghost use mathlib.Core.Path.{_≡_};
 ghost use Rattle.eeprom.specs.Eeprom.{widthAllowed, w as w·spec, told as told·spec, tells6 as tells6·spec};
 ghost use Rattle.eeprom.specs.Eeprom.{tells14 as tells14·spec, beginDma, dmaQuestion};
@@ -127,7 +126,7 @@ pub fn dma_allowed(words: usize, e: Eeprom) -> bool
         return true;
     }
     let phase = e.phase;
-    if !is_address(phase) {
+    if !phases::is_address(phase) {
         return true;
     }
     e.count < 6

@@ -1,8 +1,6 @@
 // Which files can be a kind's, by their length.
 
 use kind::SaveType;
-use kind::detect_save_type;
-use kind::kind_number;
 ghost use mathlib.Core.Path.{_≡_};
 ghost use Rattle.kind.specs.Kind.{byKind};
 ghost use Rattle.file_sizes.specs.SaveFit.{chipSize, saveFit, taken, saveSize, saveFitOf, saveSizeOf, keptPart};
@@ -23,19 +21,19 @@ const KEPT: [usize; 6] = [0, 32768, 65536, 131072, 8192, 8192];
 fn small(kind: SaveType) -> usize
     ensures { λ r. ⌜ r ≡ byKind kind 0 32768 65536 131072 512 512 ⌝ }
 {
-    SMALL[kind_number(kind)]
+    SMALL[kind::kind_number(kind)]
 }
 
 fn large(kind: SaveType) -> usize
     ensures { λ r. ⌜ r ≡ byKind kind 0 65536 65536 131072 8192 8192 ⌝ }
 {
-    LARGE[kind_number(kind)]
+    LARGE[kind::kind_number(kind)]
 }
 
 pub fn save_size(kind: SaveType) -> usize
     ensures { λ r. ⌜ r ≡ saveSize kind ⌝ }
 {
-    KEPT[kind_number(kind)]
+    KEPT[kind::kind_number(kind)]
 }
 
 // A file of a chip's size, or with the 16 bytes of a footer.
@@ -54,7 +52,7 @@ fn chip_size(size: usize, file: usize) -> bool
 pub fn save_fit(kind: SaveType, file: usize) -> SaveFit
     ensures { λ r. ⌜ r ≡ saveFit kind file ⌝ }
 {
-    if kind_number(kind) == 0 {
+    if kind::kind_number(kind) == 0 {
         return SaveFit::Refused;
     }
     if chip_size(small(kind), file) {
@@ -83,7 +81,7 @@ pub fn save_fit_of(image: &[u8], file: usize) -> SaveFit
     if image.len() < 192 {
         return SaveFit::Refused;
     }
-    save_fit(detect_save_type(image), file)
+    save_fit(kind::detect_save_type(image), file)
 }
 
 pub fn save_size_of(image: &[u8]) -> usize
@@ -92,7 +90,7 @@ pub fn save_size_of(image: &[u8]) -> usize
     if image.len() < 192 {
         return 0;
     }
-    save_size(detect_save_type(image))
+    save_size(kind::detect_save_type(image))
 }
 
 // What import keeps of a file, its footer cut off, or an empty part.

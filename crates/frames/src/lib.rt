@@ -2,7 +2,6 @@
 
 mod print;
 
-use hex::value_of;
 use kind::SaveType;
 pub use print::print_line;
 ghost use mathlib.Core.Path.{_≡_};
@@ -137,7 +136,7 @@ pub fn push(l: Line, c: u8) -> Line
     if 12 <= l.count {
         return line_with(false, l.count, l.value);
     }
-    let v = value_of(c);
+    let v = hex::value_of(c);
     if 16 <= v {
         return line_with(false, l.count, l.value);
     }

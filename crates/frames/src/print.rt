@@ -1,6 +1,5 @@
 // Lines printed.
 
-use hex::character;
 ghost use mathlib.Core.Path.{_≡_};
 ghost use Prim.Native.Nat.{_+_, _*_, _/_, _%_, _≤_};
 ghost use lib.ListN.{length, set};
@@ -15,8 +14,8 @@ fn put_digits(out: &mut [u8], at: usize, b: u8)
     ensures { λ _. ⌜ now (out .exit)
         ≡ set (set (now (out .entry)) at (character·spec (b / 16 % 16))) (at + 1) (character·spec (b % 16)) ⌝ }
 {
-    out[at] = character(b / 16 % 16);
-    out[at + 1] = character(b % 16);
+    out[at] = hex::character(b / 16 % 16);
+    out[at + 1] = hex::character(b % 16);
 }
 
 // Writes a status, an answer's bytes and a line feed to the front of the output. Returns the length of the line.

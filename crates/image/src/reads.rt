@@ -3,8 +3,6 @@ use crate::Answer;
 use crate::accept;
 use crate::image_length;
 use crate::refuse;
-use lists::low16;
-use lists::low32;
 ghost use mathlib.Core.Path.{_≡_};
 ghost use lib.ListN.{getD};
 ghost use Rattle.image.specs.Image.{read as read·spec};
@@ -32,7 +30,7 @@ pub fn read16(image: &[u8], address: u32) -> Answer
         return refuse(1);
     }
     let at = address as usize;
-    accept(low16(byte_at(image, at), byte_at(image, at + 1)) as u32)
+    accept(lists::low16(byte_at(image, at), byte_at(image, at + 1)) as u32)
 }
 
 pub fn read32(image: &[u8], address: u32) -> Answer
@@ -42,7 +40,7 @@ pub fn read32(image: &[u8], address: u32) -> Answer
         return refuse(1);
     }
     let at = address as usize;
-    accept(low32(
+    accept(lists::low32(
         byte_at(image, at),
         byte_at(image, at + 1),
         byte_at(image, at + 2),

@@ -1,6 +1,5 @@
 // A file's bytes into a memory, and a memory's into a file.
 use crate::leaves::erase;
-use lists::copy;
 ghost use mathlib.Core.Path.{_≡_};
 ghost use Prim.Native.Nat.{_≤_};
 ghost use lib.ListN.{length};
@@ -22,8 +21,8 @@ pub fn copy_file(s: &mut [u8], output: &[u8])
 {
     let n = output.len();
     let mut held = room();
-    copy(&mut held[..], output);
-    copy(s, &held[..n]);
+    lists::copy(&mut held[..], output);
+    lists::copy(s, &held[..n]);
 }
 
 // FFh everywhere, then the file's first bytes; each byte is written once.

@@ -1,5 +1,4 @@
 // The stores, each to its own part of the memory.
-use lists::fill;
 ghost use mathlib.Core.Path.{_≡_};
 ghost use mathlib.Core.List.{[]};
 ghost use Prim.Native.Nat.{_+_, _*_, _≤_, _<_};
@@ -11,7 +10,7 @@ ghost use Rattle.memory.specs.Memory.{erased, stored, Fits};
 pub fn erase(part: &mut [u8])
     ensures { λ _. ⌜ now (part .exit) ≡ erased (length (now (part .entry))) ⌝ }
 {
-    fill(part, 0xFF);
+    lists::fill(part, 0xFF);
 }
 
 // The eight bytes of a block, highest first.

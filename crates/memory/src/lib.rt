@@ -4,11 +4,6 @@ mod files;
 mod leaves;
 
 pub use files::copy_file;
-use files::load;
-use leaves::erase;
-use leaves::erase_sector;
-use leaves::put_block;
-use leaves::put_byte;
 ghost use mathlib.Core.Path.{_≡_};
 ghost use mathlib.Core.Bool.{_||_};
 ghost use lib.ListN.{length};
@@ -39,11 +34,11 @@ pub fn apply(store: Store, file: &[u8], memory: &mut [u8])
 {
     match store {
         Store::Nothing => {}
-        Store::Byte(place, value) => put_byte(memory, place, value),
-        Store::Block(block, word) => put_block(memory, block, word),
-        Store::Sector(place) => erase_sector(memory, place),
-        Store::Chip => erase(memory),
-        Store::File => load(memory, file),
+        Store::Byte(place, value) => leaves::put_byte(memory, place, value),
+        Store::Block(block, word) => leaves::put_block(memory, block, word),
+        Store::Sector(place) => leaves::erase_sector(memory, place),
+        Store::Chip => leaves::erase(memory),
+        Store::File => files::load(memory, file),
     }
 }
 

@@ -1,9 +1,6 @@
 // What a call answers, as bytes. The caller's output is as long as the answer.
 use cart::Cartridge;
 use cart::Reply;
-use file_calls::save_data;
-use lists::copy;
-use lists::fill;
 use state_calls::StateAnswer;
 ghost use mathlib.Core.Path.{_≡_};
 ghost use mathlib.Core.List.{[], _∷_};
@@ -35,7 +32,7 @@ pub fn put_state(out: &mut [u8], state: StateAnswer)
 {
     let bytes = state.bytes;
     out[0] = state.refusal;
-    copy(&mut out[1..], &bytes);
+    lists::copy(&mut out[1..], &bytes);
 }
 
 // An export into zeros.
@@ -43,8 +40,8 @@ fn export_into(cart: Cartridge, memory: &[u8], destination: &mut [u8]) -> Reply
     ensures { λ r. ⌜ (r, now (destination .exit))
         ≡ exportReplied (exportInto (length (now (destination .entry))) (state cart (now (memory .entry)))) ⌝ }
 {
-    fill(destination, 0);
-    save_data(cart, memory, destination)
+    lists::fill(destination, 0);
+    file_calls::save_data(cart, memory, destination)
 }
 
 fn put_length(out: &mut [u8], reply: Reply)

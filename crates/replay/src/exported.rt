@@ -1,12 +1,5 @@
 // The call that a C program links.
 use crate::running::run;
-use call_list::ask_list;
-use image::image_length;
-use kind::detect_save_type;
-use kind::memory_size;
-use kind::uses_eeprom;
-use lists::fill;
-use state_calls::from_bytes;
 ghost use mathlib.Core.Path.{_≡_};
 ghost use Rattle.lists.specs.Questions.{asked};
 ghost use Rattle.replay.specs.Replay.{replayQuestions, replay};
@@ -16,14 +9,14 @@ fn ask(image: &[u8], list: &[u8], memory: &[u8], scratch: usize, out: usize) -> 
     ensures { λ r. ⌜ r
         ≡ asked (replayQuestions (now (image .entry)) (now (list .entry)) (now (memory .entry)) scratch out) ⌝ }
 {
-    if !image_length(image.len()) {
+    if !image::image_length(image.len()) {
         return 1;
     }
-    let kind = detect_save_type(image);
-    if memory.len() != memory_size(kind) {
+    let kind = kind::detect_save_type(image);
+    if memory.len() != kind::memory_size(kind) {
         return 3;
     }
-    ask_list(list, uses_eeprom(kind), memory.len(), scratch, out)
+    call_list::ask_list(list, kind::uses_eeprom(kind), memory.len(), scratch, out)
 }
 
 // Returns 0 or a refusal's number. A refused call changes nothing.
@@ -43,9 +36,9 @@ pub extern "C" fn gbasave_replay(
     if refusal != 0 {
         return refusal as u32;
     }
-    let opened = from_bytes(image, memory);
+    let opened = state_calls::from_bytes(image, memory);
     let cart = opened.cart;
     run(image, list, cart, memory, scratch, out);
-    fill(scratch, 0);
+    lists::fill(scratch, 0);
     0
 }

@@ -3,18 +3,9 @@ use crate::answers::put_file;
 use crate::answers::put_state;
 use crate::answers::put_status;
 use crate::answers::put_value;
-use byte_calls::save_read;
-use byte_calls::save_write;
 use call_list::Item;
 use cart::Cartridge;
 use cart::Reply;
-use cut_call::cut;
-use file_calls::load_save;
-use serial_calls::eeprom_begin_dma;
-use serial_calls::eeprom_read;
-use serial_calls::eeprom_write;
-use state_calls::chip_state;
-use state_calls::take_save_dirty;
 ghost use mathlib.Core.Path.{_≡_};
 ghost use mathlib.Core.Bool.{true};
 ghost use Prim.Native.Nat.{_≤_};
@@ -61,28 +52,34 @@ pub fn play(
         (state cart (now (memory .entry)))) ⌝ }
 {
     match item {
-        Item::SaveRead(address) => show_value(save_read(cart, memory, address), out),
+        Item::SaveRead(address) => show_value(byte_calls::save_read(cart, memory, address), out),
         Item::SaveWrite(address, value) => show_status(
-            save_write(cart, memory, address, value),
+            byte_calls::save_write(cart, memory, address, value),
             out,
         ),
-        Item::EepromRead => show_value(eeprom_read(cart, memory), out),
-        Item::EepromWrite(value) => show_status(eeprom_write(cart, memory, value), out),
-        Item::BeginDma(words) => show_status(eeprom_begin_dma(cart, words as usize), out),
-        Item::TakeFlag => show_status(take_save_dirty(cart), out),
+        Item::EepromRead => show_value(serial_calls::eeprom_read(cart, memory), out),
+        Item::EepromWrite(value) => show_status(
+            serial_calls::eeprom_write(cart, memory, value),
+            out,
+        ),
+        Item::BeginDma(words) => show_status(
+            serial_calls::eeprom_begin_dma(cart, words as usize),
+            out,
+        ),
+        Item::TakeFlag => show_status(state_calls::take_save_dirty(cart), out),
         Item::ChipState => {
-            put_state(out, chip_state(cart));
+            put_state(out, state_calls::chip_state(cart));
             cart
         }
         Item::LoadSave(n) => {
             let end = 5 + n;
-            show_status(load_save(cart, memory, &list[5..end]), out)
+            show_status(file_calls::load_save(cart, memory, &list[5..end]), out)
         }
         Item::SaveData(_) => {
             put_file(cart, memory, out);
             cart
         }
-        Item::Cut => cut(image, cart, memory, scratch),
+        Item::Cut => cut_call::cut(image, cart, memory, scratch),
         Item::Bad => cart,
     }
 }

@@ -2,12 +2,7 @@
 use crate::answers::put_file;
 use crate::answers::put_state;
 use crate::playing::play;
-use call_list::ending_room;
-use call_list::item_in;
-use call_list::item_length;
-use call_list::item_room;
 use cart::Cartridge;
-use state_calls::chip_state;
 ghost use mathlib.Core.Path.{_≡_};
 ghost use mathlib.Core.Bool.{false, _&&_};
 ghost use Prim.Native.Nat.{_+_, _≤_};
@@ -26,7 +21,7 @@ fn end_with(cart: Cartridge, memory: &[u8], out: &mut [u8])
 {
     let middle = 5 + memory.len();
     put_file(cart, memory, &mut out[..middle]);
-    put_state(&mut out[middle..], chip_state(cart));
+    put_state(&mut out[middle..], state_calls::chip_state(cart));
 }
 
 pub fn run(
@@ -49,8 +44,8 @@ pub fn run(
     let mut at = 0;
     let mut i = 0;
     while i < list.len() {
-        let item = item_in(&list[i..]);
-        let end = at + item_room(item);
+        let item = call_list::item_in(&list[i..]);
+        let end = at + call_list::item_room(item);
         cart = play(
             item,
             &list[i..],
@@ -61,8 +56,8 @@ pub fn run(
             &mut out[at..end],
         );
         at = end;
-        i += item_length(item);
+        i += call_list::item_length(item);
     }
-    let end = at + ending_room(memory.len());
+    let end = at + call_list::ending_room(memory.len());
     end_with(cart, memory, &mut out[at..end]);
 }

@@ -3,10 +3,6 @@
 mod utf8;
 
 use image::Answer;
-use image::accept;
-use image::refuse;
-use lists::copy;
-use utf8::sequence;
 ghost use mathlib.Core.Path.{_≡_};
 ghost use Prim.Native.Nat.{_*_, _<_, _≤_};
 ghost use lib.ListN.{length, take};
@@ -31,14 +27,14 @@ fn show(out: &mut [u8], s: &[u8]) -> Shown
     requires { ⌜ (0 < length (now s)) × (3 * length (now s) ≤ length (now out)) ⌝ }
     ensures { λ r. ⌜ (r, now (out .exit)) ≡ showing (now (s .entry)) (now (out .entry)) ⌝ }
 {
-    let first = sequence(s);
+    let first = utf8::sequence(s);
     match first {
         Sequence::Well(n) => {
-            copy(&mut *out, &s[..n]);
+            lists::copy(&mut *out, &s[..n]);
             Shown { used: n, len: n }
         }
         Sequence::Ill(n) => {
-            copy(&mut *out, b"\xEF\xBF\xBD");
+            lists::copy(&mut *out, b"\xEF\xBF\xBD");
             Shown { used: n, len: 3 }
         }
     }
@@ -79,14 +75,14 @@ pub fn header_title(image: &[u8], destination: &mut [u8]) -> Answer
     ensures { λ r. ⌜ (r, now (destination .exit)) ≡ headerTitle (now (image .entry)) (now (destination .entry)) ⌝ }
 {
     if image.len() < 192 {
-        return refuse(1);
+        return image::refuse(1);
     }
     let mut text = [0u8; 36];
     let n = replace(&mut text, &image[0xA0..0xAC]);
     let len = trim(&text, n);
     if destination.len() < len {
-        return refuse(13);
+        return image::refuse(13);
     }
-    copy(destination, &text[..len]);
-    accept(len as u32)
+    lists::copy(destination, &text[..len]);
+    image::accept(len as u32)
 }
