@@ -1,1 +1,2 @@
 pub mod SaveFit
+pub mod Claims

@@ -33,7 +33,7 @@ first-then (b ∷ s) h =
     ap (λ (l : List ℕ). shown (sequence (b ∷ s)) (b ∷ s) ++ l) (skips (pred (size (sequence (b ∷ s)))) s ∙ ap (λ (j : ℕ). replaced 0 (drop j (b ∷ s))) k)
 
 -- at most three bytes are shown for each that is taken
-shown-length : (q : Sequence) (s : List ℕ) → 1 ≤ size q → size q ≤ length s → length (shown q s) ≤ 3 * size q
+pub shown-length : (q : Sequence) (s : List ℕ) → 1 ≤ size q → size q ≤ length s → length (shown q s) ≤ 3 * size q
 shown-length (Well n) s l h = omega (arith, length-take-le n s h)
 shown-length (Ill n) s l h = omega arith
 
