@@ -9,8 +9,6 @@ use lib.Pow.{areBytes}
 use borrow.Author.Tests.{eqb-true}
 use Rattle.lists.specs.Questions.{asked}
 use Rattle.lists.proofs.Bools.{split}
-use Rattle.eeprom.specs.declared.EepromPhase.the-variants.{Opcode}
-use Rattle.eeprom.specs.Gbatek.{Idle}
 use Rattle.cart.specs.Record.{State, Outcome, fromBytes}
 use Rattle.cart.specs.Calls.{Call, restoreQuestions, step, restore}
 use Rattle.cart.specs.Gbatek.{calls, Usable, Reached, UsableStates}
@@ -30,10 +28,10 @@ reached-sound s r =
     subst Sound (r .leads) (sound-calls (r .list) (fromBytes (r .image) (r .memory) .next) f)
 
 -- acc holds only the bits shifted in since the count was 0
-chip-idle : (s : State) → Sound s → s .cart .chip .eeprom .phase ≡ Opcode → s .cart .chip .eeprom .count ≡ 0 → Idle (s .cart .chip .eeprom)
-chip-idle s k p c =
+acc-0 : (s : State) → Sound s → s .cart .chip .eeprom .count ≡ 0 → s .cart .chip .eeprom .acc ≡ 0
+acc-0 s k c =
     let h : s .cart .chip .eeprom .acc < 2 ^ 0 = rw c at (k .eepromOk .serialOk .accOk) in
-    record { phase0 = p; count0 = c; acc0 = omega arith }
+    omega arith
 
 restored : (b : List ℕ) (s : State) → areBytes b ≡ true → Usable s → Usable (restore b s .next)
 unfolding restore
@@ -49,5 +47,5 @@ usable-states =
       stays = usable-step;
       restored = restored;
       reached = λ s r. let k = reached-sound s r in record { valid = record-allowed s k; memoryOk = k .memoryOk };
-      idle = λ s r. chip-idle s (reached-sound s r);
+      acc0 = λ s r p c. acc-0 s (reached-sound s r) c;
     }

@@ -149,5 +149,5 @@ pub record UsableStates : Type 0 where
   pub stays : (c : Call) (d : List ℕ) (s : State) → Usable s → Usable (step c d s .next)
   pub restored : (b : List ℕ) (s : State) → areBytes b ≡ true → Usable s → Usable (restore b s .next)
   pub reached : (s : State) → Reached s → Usable s
-  pub idle : (s : State) → Reached s → s .cart .chip .eeprom .phase ≡ Opcode → s .cart .chip .eeprom .count ≡ 0
-      → eeprom.Idle (s .cart .chip .eeprom)
+  pub acc0 : (s : State) → Reached s → s .cart .chip .eeprom .phase ≡ Opcode → s .cart .chip .eeprom .count ≡ 0
+      → s .cart .chip .eeprom .acc ≡ 0

@@ -24,7 +24,7 @@ writeBlock w block word last = (1 ∷ 0 ∷ []) ++ (bits w block ++ (bits 64 wor
 
 -- "It hangs on bit 0 of the data bus": halfwords that carry bits, whatever else is in them
 abbrev pub Carries : List ℕ → List ℕ → Type 0
-Carries halfwords bits = map (λ v. v % 2) halfwords ≡ bits
+Carries halfwords stream = map (λ v. v % 2) halfwords ≡ stream
 
 -- halfwords that write a word to a block, and halfwords that set the address; the chip takes any last bit
 pub record Writing (w block word : ℕ) (halfwords : List ℕ) : Type 0 where
