@@ -1,4 +1,4 @@
--- What holds of every state that calls reach from a fresh cartridge. Assumes nothing.
+-- Where GBATEK's claims hold: usable states, and those that calls reach from a fresh cartridge. Assumes nothing.
 use mathlib.Core.Path.{_≡_, subst}
 use mathlib.Core.Bool.{true}
 use mathlib.Core.List.{List, [], _∷_}
@@ -8,12 +8,13 @@ use lib.Dec.{eqb}
 use lib.Pow.{areBytes}
 use borrow.Author.Tests.{eqb-true}
 use Rattle.lists.specs.Questions.{asked}
-use Rattle.lists.proofs.Bools.{split}
+use Rattle.lists.proofs.Bools.{split, either}
+use Rattle.file_sizes.specs.SaveFit.{keptPart}
 use Rattle.cart.specs.Record.{State, Outcome, fromBytes}
-use Rattle.cart.specs.Calls.{Call, restoreQuestions, step, restore}
+use Rattle.cart.specs.Calls.{Call, restoreQuestions, importQuestions, step, restore, importSave}
 use Rattle.cart.specs.Gbatek.{calls, Usable, Reached, UsableStates}
 use Rattle.cart.proofs.Sound.{Sound, record-allowed, opened, sound-fresh, sound-step}
-use Rattle.cart.proofs.Usable.{usable-step}
+use Rattle.cart.proofs.Usable.{usable-step, usable-load}
 use Rattle.cart.proofs.Restore.{state-yes, restored-allowed}
 
 sound-calls : (cs : List Call) (s : State) → Sound s → Sound (calls cs s .last)
@@ -41,11 +42,17 @@ restored b s a u =
     (λ e. record { valid = restored-allowed b s a (u .valid) (state-yes b s (eqb-true n 0 e)); memoryOk = u .memoryOk })
     (λ e. u)
 
+imported : (f : List ℕ) (s : State) → Usable s → Usable (importSave f s .next)
+unfolding importSave
+imported f s u =
+    either (λ (o : Outcome). Usable (o .next)) (eqb (asked (importQuestions f s)) 0) (usable-load (keptPart (s .cart .kind) f) s u) u
+
 pub usable-states : UsableStates
 usable-states =
     record {
       stays = usable-step;
       restored = restored;
+      imported = imported;
       reached = λ s r. let k = reached-sound s r in record { valid = record-allowed s k; memoryOk = k .memoryOk };
       acc0 = λ s r p c. acc-0 s (reached-sound s r) c;
     }

@@ -67,7 +67,7 @@ abbrev ToldFrom : Eeprom → Eeprom → Type 0
 ToldFrom e x = eeprom.Idle x × (x .place ≡ e .place)
 
 told-by : (e : Eeprom) (n : ℕ) (b : Bool) → eeprom.Idle e → ToldFrom e (told n b e)
-told-by e n b i = (record { phase0 = i .phase0; count0 = i .count0; acc0 = i .acc0 }, refl)
+told-by e n b i = (record { phase0 = i .phase0; count0 = i .count0; accOk = i .accOk }, refl)
 
 told-idle : (n : ℕ) (e : Eeprom) → eeprom.Idle e → ToldFrom e (beginDma n e)
 unfolding beginDma
@@ -151,7 +151,7 @@ after w x s i block y other vs us c h =
     let m′ : List ℕ = withPart (s .memory) (8 * k) (digits 256 8 y) in
     let t : State = behind s true (w + 67) k (s .cart .chip .eeprom .place) m′ in
     let p = writes-block s i w x block y vs c in
-    let l : Waits t = record { usable = usable-on (write w vs) s (i .usable) p; kind = i .kind; idle = record { phase0 = refl; count0 = refl; acc0 = refl } } in
+    let l : Waits t = record { usable = usable-on (write w vs) s (i .usable) p; kind = i .kind; idle = record { phase0 = refl; count0 = refl; accOk = refl } } in
     ap (λ (r : Ran). r .given) (calls-then (write w vs) (read w us) s p (reads-block t l w x other us h))
     ∙ ap (λ (q : List ℕ). replicate 4 0 ++ q)
     (cases (eqb k j)

@@ -1,7 +1,7 @@
 -- Valid records with a memory of their kind's length. Assumes nothing.
 use mathlib.Core.Path.{_≡_, _∙_}
 use mathlib.Core.Bool.{true}
-use mathlib.Core.List.{List}
+use mathlib.Core.List.{List, []}
 use Prim.Native.Nat.{ℕ}
 use native.Mathlib.Omega.{arith}
 use lib.Dec.{eqb}
@@ -13,10 +13,10 @@ use Rattle.kind.specs.Kind.{memorySize}
 use Rattle.eeprom.specs.Eeprom.{wOf, countLimit}
 use Rattle.eeprom.proofs.Allowed.{Allowed, allowed-bit, allowed-read, allowed-dma, allowed-load}
 use Rattle.cart.specs.Record.{State, chipAllowed, recordAllowed}
-use Rattle.cart.specs.Calls.{Call, step}
+use Rattle.cart.specs.Calls.{Call, loadSave, load, questions, accepted, step}
 use Rattle.cart.specs.Gbatek.{Usable}
 use Rattle.cart.proofs.Fields.{chip-fields, allowed-bounds}
-use Rattle.cart.proofs.Sound.{SoundBy, Keeps, step-by}
+use Rattle.cart.proofs.Sound.{SoundBy, Keeps, accepted-by, step-by}
 
 -- the same, field by field
 to-fields : (s : State) → Usable s → SoundBy Allowed s
@@ -53,6 +53,10 @@ of-fields s k =
       memoryOk = k .memoryOk;
     }
 
+-- question 3 is answered yes
+pub memory-yes : (s : State) → Usable s → eqb (length (s .memory)) (memorySize (s .cart .kind)) ≡ true
+memory-yes s u = eq-eqb (length (s .memory)) (memorySize (s .cart .kind)) (u .memoryOk)
+
 keeps : Keeps Allowed
 keeps =
     record {
@@ -66,6 +70,6 @@ keeps =
 pub usable-step : (c : Call) (d : List ℕ) (s : State) → Usable s → Usable (step c d s .next)
 usable-step c d s u = of-fields (step c d s .next) (step-by keeps c d s (to-fields s u))
 
--- question 3 is answered yes
-pub memory-yes : (s : State) → Usable s → eqb (length (s .memory)) (memorySize (s .cart .kind)) ≡ true
-memory-yes s u = eq-eqb (length (s .memory)) (memorySize (s .cart .kind)) (u .memoryOk)
+pub usable-load : (f : List ℕ) (s : State) → Usable s → Usable (load s f)
+unfolding accepted questions
+usable-load f s u = of-fields (load s f) (accepted-by keeps (loadSave f) [] s (u .valid, (memory-yes s u, tt)) (to-fields s u))

@@ -19,7 +19,7 @@ use Rattle.eeprom.specs.Gbatek as eeprom
 use Rattle.eeprom.specs.Gbatek.{Width, Writing, Addressing, bits, bitsOfBytes, readOut, fed, drawn, drained, blockOf}
 use Rattle.cart.specs.Record.{State, recordAllowed, fromBytes}
 use Rattle.cart.specs.Calls.{Call, saveRead, saveWrite, eepromBeginDma, eepromWrite, eepromRead}
-use Rattle.cart.specs.Calls.{stateWith, flashOf, withFlash, eepromOf, withEeprom, withChip, step, restore}
+use Rattle.cart.specs.Calls.{stateWith, flashOf, withFlash, eepromOf, withEeprom, withChip, step, restore, importSave}
 
 -- calls, one after the other: the first refusal or 0, all that they answer, and the state after the last
 pub record Ran : Type 0 where
@@ -143,11 +143,12 @@ pub record Reached (s : State) : Type 0 where
   pub opens : fromBytes image memory .refusal ≡ 0
   pub leads : calls list (fromBytes image memory .next) .last ≡ s
 
--- where the claims above hold: each call and a restore lead from a usable state to one; a reached state is usable,
--- and where its serial chip awaits a command, acc is 0
+-- where the claims above hold: each call, a restore and an import lead from a usable state to one; a reached state is
+-- usable, and where its serial chip awaits a command, acc is 0
 pub record UsableStates : Type 0 where
   pub stays : (c : Call) (d : List ℕ) (s : State) → Usable s → Usable (step c d s .next)
   pub restored : (b : List ℕ) (s : State) → areBytes b ≡ true → Usable s → Usable (restore b s .next)
+  pub imported : (f : List ℕ) (s : State) → Usable s → Usable (importSave f s .next)
   pub reached : (s : State) → Reached s → Usable s
   pub acc0 : (s : State) → Reached s → s .cart .chip .eeprom .phase ≡ Opcode → s .cart .chip .eeprom .count ≡ 0
       → s .cart .chip .eeprom .acc ≡ 0

@@ -1,5 +1,6 @@
 -- GBATEK, Backup EEPROM: the serial commands as bit streams, for an address of w bits.
 use mathlib.Core.Path.{_≡_}
+use mathlib.Core.Logic.{_≢_}
 use mathlib.Core.Bool.{Bool, true}
 use mathlib.Core.List.{List, [], _∷_, _++_, map}
 use Prim.Native.Nat.{ℕ, zero, suc, _+_, _*_, _%_, _^_, _≤_, _<_}
@@ -59,11 +60,12 @@ unfoldable pub drained : ℕ → Eeprom → Eeprom
 drained zero e = e
 drained (suc n) e = drained n (afterRead e)
 
--- a chip between two commands, and a chip with the memory m and the flag dirty
+-- a chip between two commands, and a chip with the memory m and the flag dirty. Calls leave acc 0 there; of an acc that
+-- was restored, the opcode's two bits shift out the two highest
 pub record Idle (e : Eeprom) : Type 0 where
   pub phase0 : e .phase ≡ Opcode
   pub count0 : e .count ≡ 0
-  pub acc0 : e .acc ≡ 0
+  pub accOk : e .acc % 2 ^ 62 ≡ 0
 
 abbrev pub held : Eeprom → List ℕ → Bool → Held Eeprom
 held e m dirty = record { chip = e; memory = m; dirty = dirty }
@@ -100,6 +102,12 @@ pub record Commands (w : ℕ) (e : Eeprom) : Type 0 where
 
 abbrev pub SerialChipClaim : Type 0
 SerialChipClaim = (w : ℕ) (e : Eeprom) → Width w → Idle e → Commands w e
+
+-- after any other acc the two bits are no opcode: they are lost, and the chip is idle
+abbrev pub OpcodeLost : Type 0
+OpcodeLost =
+    (e : Eeprom) (a b : ℕ) (m : List ℕ) (dirty : Bool) → e .phase ≡ Opcode → e .count ≡ 0 → e .acc % 2 ^ 62 ≢ 0
+    → fed (a ∷ b ∷ []) (held e m dirty) ≡ held (serial e Opcode 0 (e .block) (e .place) 0) m dirty
 
 -- a bit that comes while a read is under way ends it, and counts as the first bit of a command
 abbrev pub Abandons : Type 0
