@@ -11,28 +11,18 @@ use borrow.Author.Tests.{eqb-true, ltb-true, leb-true, le-leb}
 use Rattle.lists.specs.Lists.{lowFirst, lowValue}
 use Rattle.lists.specs.Questions.{asked}
 use Rattle.lists.proofs.Questions.{yes-all}
-use Rattle.lists.proofs.Bools.{cases, and-left, and-right}
+use Rattle.lists.proofs.Bools.{and-left, and-right}
 use Rattle.lists.proofs.Parts.{spelled, spells}
 use Rattle.image.specs.Image.{imageLength}
 use Rattle.flash.specs.Flash.{stateAllowed}
 use Rattle.eeprom.specs.Eeprom.{widthAllowed, w, wOf, countLimit}
 use Rattle.eeprom.proofs.Sound.{limit-64}
+pub use Rattle.eeprom.proofs.Allowed.{w-le}
 use Rattle.cart.specs.declared.ChipRecord.{ChipRecord}
 use Rattle.cart.specs.ChipState.{chipBytes, fieldQuestions, stateQuestions}
 use Rattle.cart.specs.declared.Cartridge.{Cartridge}
 use Rattle.cart.specs.Record.{chipAllowed, recordAllowed}
 use Rattle.cart.proofs.ChipState.{phase-le, phase-back, bit-le, bit-back}
-
--- an allowed count is at most 64
-pub w-le : (width : ℕ) (large : Bool) → widthAllowed width ≡ true → w width large ≤ 14
-unfolding widthAllowed w
-w-le width large e =
-    cases (eqb width 0) (λ z. rw z (small large))
-    (λ z. rw z (cases (eqb width 6) (λ s. omega (arith, eqb-true width 6 s)) (λ s. omega (arith, eqb-true width 14 (rw (z, s) at e)))))
-  where
-    small : (large : Bool) → cond large 14 6 ≤ 14
-    small true = omega arith
-    small false = omega arith
 
 -- the questions about state, flags, width, places and count, where the count's own limit tells that it is at most 64
 numbers : (s b w c k p l : Bool) → (w ≡ true → l ≡ true → c ≡ true)
@@ -77,8 +67,11 @@ acc-value b n =
     let d : drop 10 b ≡ spelled b 0 10 8 = sym (take-all 8 (drop 10 b) (omega arith)) ∙ spells b 0 8 10 (omega arith) in
     rw d (omega arith)
 
--- what an allowed record's fields are below
+-- what an allowed record's fields are
 pub record Bounds (c : ChipRecord) : Type 0 where
+  pub stateOk : stateAllowed (c .flash .state) ≡ true
+  pub bankOk : c .flash .bank ≤ 1
+  pub widthOk : widthAllowed (c .eeprom .width) ≡ true
   pub limitOk : c .eeprom .count < countLimit (c .eeprom .phase) (wOf (c .eeprom))
   pub countOk : c .eeprom .count < 64
   pub blockOk : c .eeprom .block < 1024
@@ -95,13 +88,18 @@ allowed-bounds c h =
     let b : Bool = leb (c .chip .flash .bank) 1 in
     let s : Bool = stateAllowed (c .chip .flash .state) in
     let y = sym (chip-fields (c .chip)) ∙ and-right (imageLength (c .len)) (chipAllowed (c .chip)) h in
-    let y3 = and-right b (w && (k && (p && l))) (and-right s (b && (w && (k && (p && l)))) y) in
+    let y2 = and-right s (b && (w && (k && (p && l)))) y in
+    let y3 = and-right b (w && (k && (p && l))) y2 in
+    let t = and-left w (k && (p && l)) y3 in
     let y4 = and-right w (k && (p && l)) y3 in
     let y5 = and-right k (p && l) y4 in
     let m = ltb-true (e .count) (countLimit (e .phase) (wOf e)) (and-right p l y5) in
     record {
+      stateOk = and-left s (b && (w && (k && (p && l)))) y;
+      bankOk = leb-true (c .chip .flash .bank) 1 (and-left b (w && (k && (p && l))) y2);
+      widthOk = t;
       limitOk = m;
-      countOk = limit-64 (e .phase) (wOf e) (e .count) (w-le (e .width) (e .large) (and-left w (k && (p && l)) y3)) m;
+      countOk = limit-64 (e .phase) (wOf e) (e .count) (w-le (e .width) (e .large) t) m;
       blockOk = omega (arith, leb-true (e .block) 1023 (and-left k (p && l) y4));
       placeOk = omega (arith, leb-true (e .place) 67 (and-left p l y5));
     }

@@ -2,7 +2,7 @@
 use mathlib.Core.Path.{_≡_, refl, ap, _∙_}
 use mathlib.Core.Bool.{true, false, cond}
 use mathlib.Core.List.{List, [], _∷_, _++_}
-use Prim.Native.Nat.{ℕ, _+_, _*_, _%_, _≤_, _<_}
+use Prim.Native.Nat.{ℕ, _+_, _<_}
 use native.Mathlib.Omega.{arith}
 use lib.Dec.{eqb}
 use lib.ListN.{length, getD, set, length-set}
@@ -11,16 +11,17 @@ use Rattle.memory.specs.Memory.{Held}
 use Rattle.kind.specs.declared.SaveType.{SaveType}
 use Rattle.kind.specs.Kind.{memorySize}
 use Rattle.flash.specs.declared.Flash.{Flash}
-use Rattle.flash.specs.Flash.{flashRead, writeByte}
-use Rattle.flash.specs.Gbatek as flash
-use Rattle.flash.specs.Gbatek.{Write, write, written, program, base, ChipBytes, bytes64K, bytes128K}
-use Rattle.flash.proofs.Commands.{commands}
+use Rattle.flash.specs.Flash.{place, flashRead, writeByte}
+use Rattle.flash.specs.Gbatek.{Write, At, gbatek, bus, written, program, halfErase, placeOf, base, ChipBytes, bytes64K, bytes128K, Idle, idleChip}
+use Rattle.flash.proofs.Commands.{flash-chip}
 use Rattle.byte_step.specs.ByteStep.{readByte, writeStep}
 use Rattle.cart.specs.Record.{State, outcome}
 use Rattle.cart.specs.Calls.{saveRead, saveWrite, flashOf, withFlash, readSave, writeSave, questions, accepted, step}
-use Rattle.cart.specs.Gbatek.{Ran, ran, calls, Reached, bus, FlashPart, panasonic64K, sanyo128K, writes, FlashCommands}
-use Rattle.cart.proofs.Sound.{Sound, record-allowed, memory-fits, step-accepted, sound-step}
-use Rattle.cart.proofs.Runs.{then, nothing, calls-then, reached-sound, reached-on}
+use Rattle.cart.specs.Gbatek.{Ran, ran, calls, Usable, FlashPart, panasonic64K, sanyo128K, writes, FlashClaim}
+use Rattle.cart.proofs.Fields.{allowed-bounds}
+use Rattle.cart.proofs.Sound.{place-lt, step-accepted}
+use Rattle.cart.proofs.Usable.{memory-yes, usable-step}
+use Rattle.cart.proofs.Runs.{then, nothing, calls-then, usable-on}
 
 write-part : {kind : SaveType} {word : ℕ} → FlashPart kind word → (s : State) (a v : ℕ) → writeSave kind s a v ≡ withFlash s (writeByte (flashOf s) a v)
 unfolding writeSave writeStep writeByte
@@ -36,66 +37,73 @@ size-part : {kind : SaveType} {word : ℕ} → FlashPart kind word → ChipBytes
 size-part panasonic64K = bytes64K
 size-part sanyo128K = bytes128K
 
+size-pos : {n : ℕ} → ChipBytes n → 0 < n
+size-pos bytes64K = omega arith
+size-pos bytes128K = omega arith
+
 module _ {word : ℕ} where
-  write-step : (s : State) (a v : ℕ) → FlashPart (s .cart .kind) word → Sound s → step (saveWrite a v) [] s ≡ outcome [] (withFlash s (writeByte (flashOf s) a v)) []
+  write-step : (s : State) (a v : ℕ) → FlashPart (s .cart .kind) word → Usable s → step (saveWrite a v) [] s ≡ outcome [] (withFlash s (writeByte (flashOf s) a v)) []
   unfolding questions accepted
-  write-step s a v f k =
-      step-accepted (saveWrite a v) [] s (record-allowed s k, (memory-fits s k, tt)) ∙ ap (λ (t : State). outcome [] t []) (write-part f s a v)
+  write-step s a v f u =
+      step-accepted (saveWrite a v) [] s (u .valid, (memory-yes s u, tt)) ∙ ap (λ (t : State). outcome [] t []) (write-part f s a v)
 
-  run-writes : (ws : List Write) (s : State) → FlashPart (s .cart .kind) word → Sound s → calls (writes ws) s ≡ ran [] (withFlash s (written ws (flashOf s)))
+  run-writes : (ws : List Write) (s : State) → FlashPart (s .cart .kind) word → Usable s → calls (writes ws) s ≡ ran [] (withFlash s (written ws (flashOf s)))
   unfolding written
-  run-writes [] s f k = nothing s
-  run-writes (w ∷ ws) s f k =
+  run-writes [] s f u = nothing s
+  run-writes (w ∷ ws) s f u =
       let t : State = withFlash s (writeByte (flashOf s) (w .address) (w .value)) in
-      let o = write-step s (w .address) (w .value) f k in
-      then (saveWrite (w .address) (w .value)) (writes ws) s o (run-writes ws t f (rw o at (sound-step (saveWrite (w .address) (w .value)) [] s k)))
+      let o = write-step s (w .address) (w .value) f u in
+      then (saveWrite (w .address) (w .value)) (writes ws) s o (run-writes ws t f (rw o at (usable-step (saveWrite (w .address) (w .value)) [] s u)))
 
-  reads : (s : State) (a : ℕ) → FlashPart (s .cart .kind) word → Sound s → calls (saveRead a ∷ []) s ≡ ran (flashRead word (s .cart .chip .flash) (s .memory) a ∷ []) s
+  reads : (s : State) (a : ℕ) → FlashPart (s .cart .kind) word → Usable s → calls (saveRead a ∷ []) s ≡ ran (flashRead word (s .cart .chip .flash) (s .memory) a ∷ []) s
   unfolding questions accepted
-  reads s a f k =
+  reads s a f u =
       then (saveRead a) [] s
-      (step-accepted (saveRead a) [] s (record-allowed s k, (memory-fits s k, tt)) ∙ ap (λ (v : ℕ). outcome (v ∷ []) s []) (read-part f s a))
+      (step-accepted (saveRead a) [] s (u .valid, (memory-yes s u, tt)) ∙ ap (λ (v : ℕ). outcome (v ∷ []) s []) (read-part f s a))
       (nothing s)
 
-  idle : (s : State) → FlashPart (s .cart .kind) word → Sound s → s .cart .chip .flash .state ≡ 0 → flash.Idle (flashOf s)
-  idle s f k z = record { size = rw (k .memoryOk) (size-part f); state0 = z; bankOk = k .flashOk .bankOk }
+  idle : (s : State) → FlashPart (s .cart .kind) word → Usable s → s .cart .chip .flash .state ≡ 0 → Idle (flashOf s)
+  idle s f u z = record { size = rw (u .memoryOk) (size-part f); state0 = z; bankOk = allowed-bounds (s .cart) (u .valid) .bankOk }
 
-shown-in : {n : ℕ} → ChipBytes n → (b a : ℕ) → b ≤ 1 → a < 65536 → 65536 * b % n + a < n
-shown-in bytes64K b a h k = omega arith
-shown-in bytes128K b a h k = omega arith
-
--- the byte that a read shows behind a program
-program-read : {word : ℕ} (s : State) → Reached s → FlashPart (s .cart .kind) word → s .cart .chip .flash .state ≡ 0 → s .cart .chip .flash .id ≡ false
-    → (a v c : ℕ) → a < 65536 → c < 65536
-    → calls (writes (program a v) ++ (saveRead (bus c) ∷ [])) s .given ≡ cond (eqb c a) v (getD (s .memory) (base (flashOf s) + c) 0) ∷ []
-program-read {word} s r f z e a v c ha hc =
-    let k = reached-sound s r in
-    let i = idle s f k z in
+-- the byte that a read shows after a program
+program-read : {word : ℕ} (s : State) → Usable s → FlashPart (s .cart .kind) word → s .cart .chip .flash .state ≡ 0 → s .cart .chip .flash .id ≡ false
+    → (t : At) (a v c : ℕ)
+    → calls (writes (program t a v) ++ (saveRead c ∷ [])) s .given
+    ≡ cond (eqb (placeOf (flashOf s) c) (placeOf (flashOf s) a)) v (getD (s .memory) (placeOf (flashOf s) c) 0) ∷ []
+unfolding place
+program-read {word} s u f z e t a v c =
+    let i = idle s f u z in
     let m : List ℕ = s .memory in
-    let b : ℕ = base (flashOf s) in
-    let t : State = withFlash s (flash.idleChip (s .cart .chip .flash .bank) (s .cart .chip .flash .id) (set m (b + a) v) true) in
-    let p : calls (writes (program a v)) s ≡ ran [] t = run-writes (program a v) s f k ∙ ap (λ x. ran [] (withFlash s x)) (commands (flashOf s) i .programs a v ha) in
-    let l : Sound t = reached-sound t (reached-on (writes (program a v)) s r p) in
-    let n : b + a < length m = shown-in (i .size) (s .cart .chip .flash .bank) a (k .flashOk .bankOk) ha in
-    ap (λ (x : Ran). x .given) (calls-then (writes (program a v)) (saveRead (bus c) ∷ []) s p (reads t (bus c) f l))
+    let q : ℕ = placeOf (flashOf s) a in
+    let y : State = withFlash s (idleChip (s .cart .chip .flash .bank) (s .cart .chip .flash .id) (set m q v) true) in
+    let p : calls (writes (program t a v)) s ≡ ran [] y = run-writes (program t a v) s f u ∙ ap (λ x. ran [] (withFlash s x)) (flash-chip (flashOf s) i .0 .programs t a v) in
+    let l : Usable y = usable-on (writes (program t a v)) s u p in
+    let h : q < length m = place-lt (s .cart .chip .flash) (length m) a (size-pos (i .size)) in
+    ap (λ (x : Ran). x .given) (calls-then (writes (program t a v)) (saveRead c ∷ []) s p (reads y c f l))
     ∙ ap (λ (x : ℕ). x ∷ [])
-    (commands (flashOf t) (idle t f l refl) .shows word c hc e
-    ∙ rw (length-set m (b + a) v) (set-at m (b + a) v (b + c) n ∙ rw (eqb-add b c a)))
+    (flash-chip (flashOf y) (idle y f l refl) .0 .shows word c e ∙ rw (length-set m q v) (set-at m q v (placeOf (flashOf s) c) h))
 
-pub flash-commands : (word : ℕ) (s : State) → Reached s → FlashPart (s .cart .kind) word → FlashCommands word s
-flash-commands word s r f =
-    let k = reached-sound s r in
+gbatek-read : {word : ℕ} (s : State) → Usable s → FlashPart (s .cart .kind) word → s .cart .chip .flash .state ≡ 0 → s .cart .chip .flash .id ≡ false
+    → (a v c : ℕ) → a < 65536 → c < 65536
+    → calls (writes (program gbatek (bus a) v) ++ (saveRead (bus c) ∷ [])) s .given
+    ≡ cond (eqb c a) v (getD (s .memory) (base (flashOf s) + c) 0) ∷ []
+gbatek-read s u f z e a v c ha hc =
+    let g = flash-chip (flashOf s) (idle s f u z) .1 in
+    program-read s u f z e gbatek (bus a) v (bus c) ∙ rw (g .byteAt a ha, g .byteAt c hc, eqb-add (base (flashOf s)) c a)
+
+pub flash-commands : FlashClaim
+flash-commands word s u f =
     record {
-      accepts = λ ws. run-writes ws s f k;
-      shows = λ a. reads s a f k;
-      does = λ z. commands (flashOf s) (idle s f k z);
-      programRead = λ z e. program-read s r f z e;
+      accepts = λ ws. run-writes ws s f u;
+      shows = λ a. reads s a f u;
+      does = λ z. flash-chip (flashOf s) (idle s f u z);
+      programRead = program-read s u f;
+      gbatekRead = gbatek-read s u f;
     }
 
--- case (i): without the second unlock nothing is erased, whatever the addresses
-pub no-erase : (s : State) (word : ℕ) → Reached s → FlashPart (s .cart .kind) word → s .cart .chip .flash .state ≡ 0 → (p q r t : ℕ)
-    → calls (writes (write p 0xaa ∷ write q 0x55 ∷ write r 0x80 ∷ write t 0x30 ∷ [])) s .last .memory ≡ s .memory
-no-erase s word h f z p q r t =
-    let k = reached-sound s h in
-    ap (λ (x : Ran). x .last .memory) (run-writes (write p 0xaa ∷ write q 0x55 ∷ write r 0x80 ∷ write t 0x30 ∷ []) s f k)
-    ∙ ap (λ (x : Held Flash). x .memory) (commands (flashOf s) (idle s f k z) .spares p q r t)
+-- case (i): without the second unlock nothing is erased
+pub no-erase : (s : State) (word : ℕ) → Usable s → FlashPart (s .cart .kind) word → s .cart .chip .flash .state ≡ 0 → (t : At) (a : ℕ)
+    → calls (writes (halfErase t a)) s .last .memory ≡ s .memory
+no-erase s word u f z t a =
+    ap (λ (x : Ran). x .last .memory) (run-writes (halfErase t a) s f u)
+    ∙ ap (λ (x : Held Flash). x .memory) (flash-chip (flashOf s) (idle s f u z) .0 .spares t a)

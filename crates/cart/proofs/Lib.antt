@@ -2,10 +2,12 @@ pub mod ChipState
 pub mod Fields
 pub mod Replies
 pub mod Sound
+pub mod Usable
 pub mod Recoverable
 pub mod CutRuns
 pub mod Restore
 pub mod Flag
+pub mod Reached
 pub mod Runs
 pub mod SramBytes
 pub mod FlashCommands

@@ -54,7 +54,10 @@ numbers : (b : List ℕ) (s : State) → numbered (restoreQuestions b s) ≡ tru
 unfolding fieldQuestions
 numbers b s = refl
 
-restored-allowed : (b : List ℕ) (s : State) → areBytes b ≡ true → recordAllowed (s .cart) ≡ true → asked (stateQuestions b) ≡ 0 → recordAllowed (restoring b s .cart) ≡ true
+pub state-yes : (b : List ℕ) (s : State) → asked (restoreQuestions b s) ≡ 0 → asked (stateQuestions b) ≡ 0
+state-yes b s e = all-yes (stateQuestions b) (yes-all (restoreQuestions b s) (numbers b s) e .1)
+
+pub restored-allowed : (b : List ℕ) (s : State) → areBytes b ≡ true → recordAllowed (s .cart) ≡ true → asked (stateQuestions b) ≡ 0 → recordAllowed (restoring b s .cart) ≡ true
 unfolding recordAllowed
 restored-allowed b s a h e =
     rw (bytes-back b a (state-size b e) (state-fields b e), state-fields b e, and-left (imageLength (s .cart .len)) (eqb (asked (fieldQuestions (chipBytes (s .cart .chip)))) 0) h)
@@ -62,7 +65,7 @@ restored-allowed b s a h e =
 writes-back : (b : List ℕ) (s : State) → areBytes b ≡ true → restore b s .refusal ≡ 0 → step chipState [] (restore b s .next) .given ≡ b
 writes-back b s a h =
     let y = yes-all (restoreQuestions b s) (numbers b s) (restore-yes b s h) in
-    let e : asked (stateQuestions b) ≡ 0 = all-yes (stateQuestions b) (y .1) in
+    let e = state-yes b s (restore-yes b s h) in
     ap (λ (o : Outcome). step chipState [] (o .next) .given) (restore-accepted b s (restore-yes b s h))
     ∙ (bytes-given (restoring b s) (restored-allowed b s a (y .0) e) ∙ bytes-back b a (state-size b e) (state-fields b e))
 

@@ -1,13 +1,13 @@
--- Calls one after the other, and what holds of every state that they reach. Assumes nothing.
+-- Calls one after the other. Assumes nothing.
 use mathlib.Core.Path.{_≡_, refl, sym, ap, subst, _∙_}
 use mathlib.Core.List.{List, [], _∷_, _++_, append-assoc}
 use mathlib.Core.Bool.{Bool, true, false, cond}
 use Prim.Native.Nat.{ℕ}
 use lib.Dec.{eqb}
-use Rattle.cart.specs.Record.{State, outcome, fromBytes}
+use Rattle.cart.specs.Record.{State, outcome}
 use Rattle.cart.specs.Calls.{Call, step}
-use Rattle.cart.specs.Gbatek.{Ran, andThen, ran, calls, Reached}
-use Rattle.cart.proofs.Sound.{Sound, opened, sound-fresh, sound-step}
+use Rattle.cart.specs.Gbatek.{Ran, andThen, ran, calls, Usable}
+use Rattle.cart.proofs.Usable.{usable-step}
 
 pub nothing : (s : State) → calls [] s ≡ ran [] s
 unfolding calls
@@ -40,29 +40,11 @@ calls-append (x ∷ xs) ys s =
 pub calls-then : (xs ys : List Call) (s : State) {g l : List ℕ} {t u : State} → calls xs s ≡ ran g t → calls ys t ≡ ran l u → calls (xs ++ ys) s ≡ ran (g ++ l) u
 calls-then xs ys s p q = calls-append xs ys s ∙ rw (p, q)
 
--- every state that is reached is sound
-sound-calls : (cs : List Call) (s : State) → Sound s → Sound (calls cs s .last)
+-- and what calls reach from a usable state is usable
+usable-calls : (cs : List Call) (s : State) → Usable s → Usable (calls cs s .last)
 unfolding calls
-sound-calls [] s k = k
-sound-calls (c ∷ cs) s k = sound-calls cs (step c [] s .next) (sound-step c [] s k)
+usable-calls [] s u = u
+usable-calls (c ∷ cs) s u = usable-calls cs (step c [] s .next) (usable-step c [] s u)
 
-pub reached-sound : (s : State) → Reached s → Sound s
-reached-sound s r =
-    let e = opened (r .image) (r .memory) (r .opens) in
-    let f : Sound (fromBytes (r .image) (r .memory) .next) = rw e (sound-fresh (r .image) (r .memory) (r .opens)) in
-    subst Sound (r .leads) (sound-calls (r .list) (fromBytes (r .image) (r .memory) .next) f)
-
--- and what calls reach from there is reached
-pub reached-on : (cs : List Call) (s : State) {g : List ℕ} {t : State} → Reached s → calls cs s ≡ ran g t → Reached t
-reached-on cs s {g} {t} r e =
-    let s0 : State = fromBytes (r .image) (r .memory) .next in
-    record {
-      image = r .image;
-      memory = r .memory;
-      list = r .list ++ cs;
-      opens = r .opens;
-      leads =
-          ap (λ (x : Ran). x .last) (calls-append (r .list) cs s0)
-          ∙ ap (λ (x : State). calls cs x .last) (r .leads)
-          ∙ ap (λ (x : Ran). x .last) e;
-    }
+pub usable-on : (cs : List Call) (s : State) {g : List ℕ} {t : State} → Usable s → calls cs s ≡ ran g t → Usable t
+usable-on cs s u e = subst Usable (ap (λ (x : Ran). x .last) e) (usable-calls cs s u)

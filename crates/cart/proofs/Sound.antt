@@ -1,6 +1,6 @@
 -- What holds of record and memory behind every list of the nine calls. Assumes nothing.
 use mathlib.Core.Path.{_≡_, refl, ap, _∙_}
-use mathlib.Core.Bool.{Bool, true}
+use mathlib.Core.Bool.{Bool, true, _||_}
 use mathlib.Core.List.{List, []}
 use mathlib.Core.Option.{Option, none, some}
 use Prim.Native.Nat.{ℕ, _*_, _%_, _<_}
@@ -12,7 +12,9 @@ use borrow.Author.Tests.{eqb-true, eq-eqb}
 use Rattle.lists.specs.Questions.{asked}
 use Rattle.lists.proofs.Bools.{split}
 use Rattle.lists.proofs.Questions.{AllYes, numbered, all-yes, yes-all}
-use Rattle.memory.specs.Memory.{stored, erased}
+use Rattle.memory.specs.declared.Store.{Store}
+use Rattle.memory.specs.declared.Store.the-variants.{Nothing, Byte, Block, Sector, Chip, File}
+use Rattle.memory.specs.Memory.{stored, erased, Fits}
 use Rattle.memory.proofs.Memory.{length-erased, length-block, length-sector, length-filled}
 use Rattle.image.specs.Image.{imageLength}
 use Rattle.kind.specs.declared.SaveType.{SaveType}
@@ -20,23 +22,35 @@ use Rattle.kind.specs.declared.SaveType.the-variants.{None, Sram, Flash64, Flas
 use Rattle.kind.specs.Kind.{memorySize, usesEeprom, detectSaveType}
 use Rattle.flash.specs.declared.Flash.{Flash}
 use Rattle.flash.specs.Flash.{place, writeByte, stateAllowed}
-use Rattle.flash.specs.declared.FlashStep.{FlashStep}
 use Rattle.flash.proofs.Sound as flash
 use Rattle.byte_step.specs.ByteStep.{writeStep}
 use Rattle.eeprom.specs.declared.Eeprom.{Eeprom}
-use Rattle.eeprom.specs.Eeprom.{dmaQuestion, bitIn}
-use Rattle.eeprom.specs.declared.EepromStep.{EepromStep}
+use Rattle.eeprom.specs.Eeprom.{told, beginDma, dmaQuestion, writeBit, bitIn, afterRead}
 use Rattle.eeprom.proofs.Sound as eeprom
+use Rattle.eeprom.proofs.Fits.{write-fits}
 use Rattle.cart.specs.Record.{State, Outcome, outcome, recordAllowed, freshCart, fresh, openQuestions, fromBytes}
 use Rattle.cart.specs.Calls.{Call, saveRead, saveWrite, eepromBeginDma, eepromWrite, eepromRead, loadSave, saveData, chipState, takeSaveDirty}
 use Rattle.cart.specs.Calls.{stateWith, flashOf, withFlash, eepromOf, withEeprom, withChip, writeSave, load, fileOf, exported, questions, accepted, step}
 use Rattle.cart.proofs.ChipState.{chip-allowed}
 
-pub record Sound (s : State) : Type 0 where
+-- image length, memory length and flash chip are right, and E holds of the serial chip
+pub record SoundBy (E : Eeprom → Type 0) (s : State) : Type 0 where
   pub lenOk : imageLength (s .cart .len) ≡ true
   pub memoryOk : length (s .memory) ≡ memorySize (s .cart .kind)
   pub flashOk : flash.Sound (s .cart .chip .flash)
-  pub eepromOk : eeprom.Sound (s .cart .chip .eeprom)
+  pub eepromOk : E (s .cart .chip .eeprom)
+
+-- of a chip that a run from a fresh one can reach
+abbrev pub Sound : State → Type 0
+Sound s = SoundBy eeprom.Sound s
+
+-- every step of the serial chip keeps E
+pub record Keeps (E : Eeprom → Type 0) : Type 0 where
+  pub block : (e : Eeprom) → E e → e .block < 1024
+  pub bit : (e : Eeprom) (b : ℕ) → b < 2 → E e → E (writeBit e b .eeprom)
+  pub out : (e : Eeprom) → E e → E (afterRead e)
+  pub dma : (words : ℕ) (e : Eeprom) → E e → dmaQuestion words e .yes ≡ true → E (beginDma words e)
+  pub loaded : (e : Eeprom) (b : Bool) → E e → E (told (e .width) (e .large || b) e)
 
 -- questions 2 and 3 are answered yes
 pub record-allowed : (s : State) → Sound s → recordAllowed (s .cart) ≡ true
@@ -54,92 +68,100 @@ eeprom-size Flash128 e = cc
 eeprom-size Eeprom512 e = refl
 eeprom-size Eeprom8k e = refl
 
--- a step that stores keeps the memory's length: of a flash chip of n sectors, of an EEPROM
-flash-length : {f : Flash} {p v : ℕ} {t : FlashStep} (m : List ℕ) (n : ℕ) → length m ≡ n * 4096 → p < length m
-    → flash.Way f p v t → length (stored (t .store) [] m) ≡ length m
+-- what lies within the memory keeps its length
+length-stored : (t : Store) (f m : List ℕ) → Fits t (length m) → length (stored t f m) ≡ length m
 unfolding stored
-flash-length m n e h (flash.state s a) = refl
-flash-length m n e h (flash.id on) = refl
-flash-length m n e h flash.bank = refl
-flash-length {f} {p} {v} m n e h flash.byte = length-set m p v
-flash-length {f} {p} {v} m n e h flash.sector = length-sector m p (omega arith)
-flash-length m n e h flash.chip = length-erased (length m)
+length-stored Nothing f m h = refl
+length-stored (Byte a v) f m h = length-set m a v
+length-stored (Block k d) f m h = length-block m k d h
+length-stored (Sector a) f m h = length-sector m a h
+length-stored Chip f m h = length-erased (length m)
+length-stored File f m h = length-filled (length m) f
 
-place-lt : (f : Flash) (n a : ℕ) → 0 < n → place f n a < n
+pub place-lt : (f : Flash) (n a : ℕ) → 0 < n → place f n a < n
 unfolding place
 place-lt f n a h = mod-lt _ h
 
-sound-flash : (s : State) (a v n : ℕ) → memorySize (s .cart .kind) ≡ n * 4096 → 0 < n → Sound s → Sound (withFlash s (writeByte (flashOf s) a v))
-unfolding writeByte
-sound-flash s a v n e h k =
-    let f = s .cart .chip .flash in
-    let l : length (s .memory) ≡ n * 4096 = k .memoryOk ∙ e in
-    let w = flash.way f (length (s .memory)) a v in
+module _ {E : Eeprom → Type 0} where
+  flash-by : (s : State) (a v n : ℕ) → memorySize (s .cart .kind) ≡ n * 4096 → 0 < n → SoundBy E s → SoundBy E (withFlash s (writeByte (flashOf s) a v))
+  unfolding writeByte
+  flash-by s a v n e h k =
+      let f = s .cart .chip .flash in
+      let l : length (s .memory) ≡ n * 4096 = k .memoryOk ∙ e in
+      let w = flash.way f (length (s .memory)) a v in
+      record {
+        lenOk = k .lenOk;
+        memoryOk = length-stored _ [] (s .memory) (flash.fits-way (length (s .memory)) n l (place-lt f (length (s .memory)) a (omega arith)) w) ∙ k .memoryOk;
+        flashOk = flash.sound-way (k .flashOk) w;
+        eepromOk = k .eepromOk;
+      }
+
+  byte-by : (s : State) (dirty : Bool) (p v : ℕ) → SoundBy E s → SoundBy E (stateWith s dirty (s .cart .chip) (set (s .memory) p v))
+  byte-by s dirty p v k =
+      record { lenOk = k .lenOk; memoryOk = length-set (s .memory) p v ∙ k .memoryOk; flashOk = k .flashOk; eepromOk = k .eepromOk }
+
+  write-by : (kind : SaveType) (s : State) (a v : ℕ) → s .cart .kind ≡ kind → SoundBy E s → SoundBy E (writeSave kind s a v)
+  unfolding writeSave writeStep writeByte stored
+  write-by None s a v e k = k
+  write-by Sram s a v e k = byte-by s true (a % 32768) v k
+  write-by Flash64 s a v e k = flash-by s a v 16 (ap memorySize e) (omega arith) k
+  write-by Flash128 s a v e k = flash-by s a v 32 (ap memorySize e) (omega arith) k
+  write-by Eeprom512 s a v e k = byte-by s (s .cart .dirty) (a % 8192) v k
+  write-by Eeprom8k s a v e k = byte-by s (s .cart .dirty) (a % 8192) v k
+
+  -- the chip record alone is new
+  chip-by : (s : State) (e : Eeprom) → SoundBy E s → E e → SoundBy E (withChip s e)
+  chip-by s e k h = record { lenOk = k .lenOk; memoryOk = k .memoryOk; flashOk = k .flashOk; eepromOk = h }
+
+  export-by : (f : Option (List ℕ)) (d : List ℕ) (s : State) → SoundBy E s → SoundBy E (exported f d s .next)
+  export-by none d s k = k
+  export-by (some f) d s k = k
+
+module _ {E : Eeprom → Type 0} (keep : Keeps E) where
+  bit-by : (s : State) (v : ℕ) → usesEeprom (s .cart .kind) ≡ true → SoundBy E s → SoundBy E (withEeprom s (bitIn (eepromOf s) v))
+  unfolding bitIn
+  bit-by s v u k =
+      let e = s .cart .chip .eeprom in
+      let h = keep .block e (k .eepromOk) in
+      record {
+        lenOk = k .lenOk;
+        memoryOk =
+            length-stored _ [] (s .memory) (write-fits (length (s .memory)) e (v % 2) (omega (arith, k .memoryOk, eeprom-size (s .cart .kind) u)))
+            ∙ k .memoryOk;
+        flashOk = k .flashOk;
+        eepromOk = keep .bit e (v % 2) (omega arith) (k .eepromOk);
+      }
+
+  pub accepted-by : (c : Call) (d : List ℕ) (s : State) → AllYes (questions c d s) → SoundBy E s → SoundBy E (accepted c d s .next)
+  unfolding accepted questions load stored
+  accepted-by (saveRead a) d s y k = k
+  accepted-by (saveWrite a v) d s y k = write-by (s .cart .kind) s a v refl k
+  accepted-by (eepromBeginDma words) d s y k = chip-by s _ k (keep .dma words (s .cart .chip .eeprom) (k .eepromOk) (y .1 .0))
+  accepted-by (eepromWrite v) d s y k = bit-by s v (y .1 .1 .0) k
+  accepted-by eepromRead d s y k = chip-by s _ k (keep .out (s .cart .chip .eeprom) (k .eepromOk))
+  accepted-by (loadSave f) d s y k =
+      record {
+        lenOk = k .lenOk;
+        memoryOk = length-filled (length (s .memory)) f ∙ k .memoryOk;
+        flashOk = k .flashOk;
+        eepromOk = keep .loaded (s .cart .chip .eeprom) _ (k .eepromOk);
+      }
+  accepted-by saveData d s y k = export-by (fileOf (s .cart .kind) s) d s k
+  accepted-by chipState d s y k = k
+  accepted-by takeSaveDirty d s y k = record { lenOk = k .lenOk; memoryOk = k .memoryOk; flashOk = k .flashOk; eepromOk = k .eepromOk }
+
+sound-keeps : Keeps eeprom.Sound
+sound-keeps =
     record {
-      lenOk = k .lenOk;
-      memoryOk = flash-length (s .memory) n l (place-lt f (length (s .memory)) a (omega arith)) w ∙ k .memoryOk;
-      flashOk = flash.sound-way (k .flashOk) w;
-      eepromOk = k .eepromOk;
+      block = λ e k. eeprom.block-1024 (e .large) (e .block) (k .serialOk .blockOk);
+      bit = λ e b h k. eeprom.sound-way k (eeprom.way e b k h);
+      out = eeprom.sound-read;
+      dma = eeprom.sound-dma;
+      loaded = eeprom.sound-load;
     }
-
-sound-byte : (s : State) (dirty : Bool) (p v : ℕ) → Sound s → Sound (stateWith s dirty (s .cart .chip) (set (s .memory) p v))
-sound-byte s dirty p v k =
-    record { lenOk = k .lenOk; memoryOk = length-set (s .memory) p v ∙ k .memoryOk; flashOk = k .flashOk; eepromOk = k .eepromOk }
-
-sound-write : (kind : SaveType) (s : State) (a v : ℕ) → s .cart .kind ≡ kind → Sound s → Sound (writeSave kind s a v)
-unfolding writeSave writeStep writeByte stored
-sound-write None s a v e k = k
-sound-write Sram s a v e k = sound-byte s true (a % 32768) v k
-sound-write Flash64 s a v e k = sound-flash s a v 16 (ap memorySize e) (omega arith) k
-sound-write Flash128 s a v e k = sound-flash s a v 32 (ap memorySize e) (omega arith) k
-sound-write Eeprom512 s a v e k = sound-byte s (s .cart .dirty) (a % 8192) v k
-sound-write Eeprom8k s a v e k = sound-byte s (s .cart .dirty) (a % 8192) v k
-
-eeprom-length : {e : Eeprom} {t : EepromStep} (m : List ℕ) → length m ≡ 8192 → eeprom.Sound e
-    → eeprom.Way e t → length (stored (t .store) [] m) ≡ length m
-unfolding stored
-eeprom-length m l k (eeprom.keeps o) = refl
-eeprom-length {e} m l k (eeprom.word d o) =
-    length-block m (e .block) d (omega (arith, eeprom.block-1024 (e .large) (e .block) (k .serialOk .blockOk)))
-
-sound-bit : (s : State) (v : ℕ) → usesEeprom (s .cart .kind) ≡ true → Sound s → Sound (withEeprom s (bitIn (eepromOf s) v))
-unfolding bitIn
-sound-bit s v e k =
-    let w = eeprom.way (s .cart .chip .eeprom) (v % 2) (k .eepromOk) (omega arith) in
-    record {
-      lenOk = k .lenOk;
-      memoryOk = eeprom-length (s .memory) (k .memoryOk ∙ eeprom-size (s .cart .kind) e) (k .eepromOk) w ∙ k .memoryOk;
-      flashOk = k .flashOk;
-      eepromOk = eeprom.sound-way (k .eepromOk) w;
-    }
-
--- the chip record alone is new
-sound-eeprom : (s : State) (e : Eeprom) → Sound s → eeprom.Sound e
-    → Sound (withChip s e)
-sound-eeprom s e k h = record { lenOk = k .lenOk; memoryOk = k .memoryOk; flashOk = k .flashOk; eepromOk = h }
-
-sound-exported : (f : Option (List ℕ)) (d : List ℕ) (s : State) → Sound s → Sound (exported f d s .next)
-sound-exported none d s k = k
-sound-exported (some f) d s k = k
 
 pub sound-accepted : (c : Call) (d : List ℕ) (s : State) → AllYes (questions c d s) → Sound s → Sound (accepted c d s .next)
-unfolding accepted questions load stored
-sound-accepted (saveRead a) d s y k = k
-sound-accepted (saveWrite a v) d s y k = sound-write (s .cart .kind) s a v refl k
-sound-accepted (eepromBeginDma words) d s y k =
-    sound-eeprom s _ k (eeprom.sound-dma words (s .cart .chip .eeprom) (k .eepromOk) (y .1 .0))
-sound-accepted (eepromWrite v) d s y k = sound-bit s v (y .1 .1 .0) k
-sound-accepted eepromRead d s y k = sound-eeprom s _ k (eeprom.sound-read (s .cart .chip .eeprom) (k .eepromOk))
-sound-accepted (loadSave f) d s y k =
-    record {
-      lenOk = k .lenOk;
-      memoryOk = length-filled (length (s .memory)) f ∙ k .memoryOk;
-      flashOk = k .flashOk;
-      eepromOk = eeprom.sound-load (s .cart .chip .eeprom) _ (k .eepromOk);
-    }
-sound-accepted saveData d s y k = sound-exported (fileOf (s .cart .kind) s) d s k
-sound-accepted chipState d s y k = k
-sound-accepted takeSaveDirty d s y k = record { lenOk = k .lenOk; memoryOk = k .memoryOk; flashOk = k .flashOk; eepromOk = k .eepromOk }
+sound-accepted c d s y k = accepted-by sound-keeps c d s y k
 
 numbers : (c : Call) (d : List ℕ) (s : State) → numbered (questions c d s) ≡ true
 unfolding questions dmaQuestion
@@ -165,8 +187,11 @@ pub step-accepted : (c : Call) (d : List ℕ) (s : State) → AllYes (questions 
 unfolding step
 step-accepted c d s y = rw (all-yes (questions c d s) y)
 
+pub step-by : {E : Eeprom → Type 0} → Keeps E → (c : Call) (d : List ℕ) (s : State) → SoundBy E s → SoundBy E (step c d s .next)
+step-by {E} keep c d s k = step-next (SoundBy E) c d s (λ y. accepted-by keep c d s y k) k
+
 pub sound-step : (c : Call) (d : List ℕ) (s : State) → Sound s → Sound (step c d s .next)
-sound-step c d s k = step-next Sound c d s (λ y. sound-accepted c d s y k) k
+sound-step c d s k = step-by sound-keeps c d s k
 
 -- an accepted opening
 opened-yes : (image memory : List ℕ) → fromBytes image memory .refusal ≡ 0 → asked (openQuestions image memory) ≡ 0

@@ -9,10 +9,10 @@ use Rattle.image.specs.Image.{headerChecksum}
 use Rattle.kind.specs.declared.SaveType.the-variants.{Sram}
 use Rattle.file_sizes.specs.declared.SaveFit.the-variants.{Keeps, Refused}
 use Rattle.file_sizes.specs.SaveFit.{saveFit}
-use Rattle.flash.specs.Gbatek.{Write, write as byteWrite}
+use Rattle.flash.specs.Gbatek.{At, halfErase}
 use Rattle.cart.specs.Record.{State, fromBytes}
 use Rattle.cart.specs.Calls.{eepromBeginDma, eepromWrite, loadSave, step, restore}
-use Rattle.cart.specs.Gbatek.{Reached, calls, FlashPart, writes}
+use Rattle.cart.specs.Gbatek.{Usable, calls, FlashPart, writes}
 
 -- a fresh cartridge without and with an EEPROM
 abbrev pub plain : State
@@ -35,10 +35,6 @@ dma9 b = step (eepromBeginDma 9) [] (restore b plain .next) .refusal
 abbrev pub largeBehind : ℕ → Bool
 largeBehind n = step (loadSave (replicate n 0)) [] eeprom .next .cart .chip .eeprom .large
 
--- "AAh, 55h, 80h, 30h", at any addresses
-abbrev pub halfErase : ℕ → ℕ → ℕ → ℕ → List Write
-halfErase p q r t = byteWrite p 0xaa ∷ byteWrite q 0x55 ∷ byteWrite r 0x80 ∷ byteWrite t 0x30 ∷ []
-
 pub record Cases : Type 0 where
   pub a : (saveFit Sram 32784 ≡ Keeps 32768) × (saveFit Sram 65552 ≡ Keeps 32768) × (saveFit Sram 32783 ≡ Refused)
   pub b : (headerChecksum (replicate 192 0) .value ≡ 0xe7) × (headerChecksum (replicate 192 1) .value ≡ 0xca)
@@ -48,8 +44,8 @@ pub record Cases : Type 0 where
   pub f : restored (chip 3 0 7 0 0) ≡ 7
   pub g : restored (chip 0 0 0 0 4) ≡ 11
   pub h : (dma9 (chip 0 1 2 5 0) ≡ 0) × (dma9 (chip 0 1 2 6 0) ≡ 5)
-  pub i : (s : State) (word : ℕ) → Reached s → FlashPart (s .cart .kind) word → s .cart .chip .flash .state ≡ 0
-      → (p q r t : ℕ) → calls (writes (halfErase p q r t)) s .last .memory ≡ s .memory
+  pub i : (s : State) (word : ℕ) → Usable s → FlashPart (s .cart .kind) word → s .cart .chip .flash .state ≡ 0
+      → (t : At) (a : ℕ) → calls (writes (halfErase t a)) s .last .memory ≡ s .memory
   pub j : calls (eepromWrite 0 ∷ eepromWrite 1 ∷ []) eeprom .last ≡ eeprom
   pub k : (largeBehind 512 ≡ false) × (largeBehind 513 ≡ true)
   pub l : fromBytes (replicate 191 0) [] .refusal ≡ 1

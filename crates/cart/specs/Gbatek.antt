@@ -1,22 +1,25 @@
--- What the machine makes of GBATEK's commands, from every state that a list of calls reaches from a fresh cartridge.
+-- What the machine makes of GBATEK's commands, from every valid record with a memory of its kind's length.
 use mathlib.Core.Path.{_≡_}
 use mathlib.Core.Bool.{Bool, true, false, cond}
 use mathlib.Core.List.{List, [], _∷_, _++_, map}
-use Prim.Native.Nat.{ℕ, _+_, _*_, _%_, _^_, _<_}
+use Prim.Native.Nat.{ℕ, _+_, _*_, _%_, _<_}
 use lib.Dec.{eqb}
-use lib.ListN.{getD, set, replicate}
+use lib.ListN.{length, getD, set, replicate}
+use lib.Pow.{areBytes}
 use Rattle.lists.specs.Lists.{digits, withPart}
 use Rattle.kind.specs.declared.SaveType.{SaveType}
-use Rattle.kind.specs.declared.SaveType.the-variants.{Flash64, Flash128}
+use Rattle.kind.specs.declared.SaveType.the-variants.{Sram, Flash64, Flash128}
+use Rattle.kind.specs.Kind.{memorySize, usesEeprom}
 use Rattle.flash.specs.Flash.{flashRead}
 use Rattle.flash.specs.Gbatek as flash
-use Rattle.flash.specs.Gbatek.{Write, written, program, base}
+use Rattle.flash.specs.Gbatek.{Write, At, gbatek, bus, written, program, placeOf, base}
 use Rattle.eeprom.specs.declared.EepromPhase.the-variants.{Opcode}
 use Rattle.eeprom.specs.Eeprom.{beginDma, serial}
 use Rattle.eeprom.specs.Gbatek as eeprom
-use Rattle.eeprom.specs.Gbatek.{bits, setAddress, writeBlock, bitsOfBytes, readOut, fed, drawn, drained, blockOf}
-use Rattle.cart.specs.Record.{State, fromBytes}
-use Rattle.cart.specs.Calls.{Call, saveRead, saveWrite, eepromBeginDma, eepromWrite, eepromRead, stateWith, flashOf, withFlash, eepromOf, withEeprom, withChip, step}
+use Rattle.eeprom.specs.Gbatek.{Width, Writing, Addressing, bits, bitsOfBytes, readOut, fed, drawn, drained, blockOf}
+use Rattle.cart.specs.Record.{State, recordAllowed, fromBytes}
+use Rattle.cart.specs.Calls.{Call, saveRead, saveWrite, eepromBeginDma, eepromWrite, eepromRead}
+use Rattle.cart.specs.Calls.{stateWith, flashOf, withFlash, eepromOf, withEeprom, withChip, step, restore, importSave}
 
 -- calls, one after the other: the first refusal or 0, all that they answer, and the state after the last
 pub record Ran : Type 0 where
@@ -36,21 +39,25 @@ calls (c ∷ cs) s = let o = step c [] s in andThen (o .refusal) (o .given) (cal
 abbrev pub ran : List ℕ → State → Ran
 ran given s = record { refusal = 0; given = given; last = s }
 
-pub record Reached (s : State) : Type 0 where
-  pub image : List ℕ
-  pub memory : List ℕ
-  pub list : List Call
-  pub opens : fromBytes image memory .refusal ≡ 0
-  pub leads : calls list (fromBytes image memory .next) .last ≡ s
+-- questions 2 and 3 are answered yes: a valid record, and a memory of its kind's length
+pub record Usable (s : State) : Type 0 where
+  pub valid : recordAllowed (s .cart) ≡ true
+  pub memoryOk : length (s .memory) ≡ memorySize (s .cart .kind)
 
--- SRAM: "32 KiB at 0E000000h..0E007FFFh, 8-bit bus, plain byte reads and writes"
-abbrev pub bus : ℕ → ℕ
-bus a = 0x0e000000 + a
+-- SRAM: "32 KiB at 0E000000h..0E007FFFh, 8-bit bus, plain byte reads and writes"; document 01: "address mod 32,768"
+abbrev pub sramPlace : ℕ → ℕ
+sramPlace a = a % 32768
 
 pub record SramBytes (s : State) : Type 0 where
-  pub writeRead : (a v c : ℕ) → a < 32768 → c < 32768
-      → calls (saveWrite (bus a) v ∷ saveRead (bus c) ∷ []) s
-      ≡ ran (cond (eqb c a) v (getD (s .memory) c 0) ∷ []) (stateWith s true (s .cart .chip) (set (s .memory) a v))
+  pub writeRead : (a v c : ℕ)
+      → calls (saveWrite a v ∷ saveRead c ∷ []) s
+      ≡ ran (cond (eqb (sramPlace c) (sramPlace a)) v (getD (s .memory) (sramPlace c) 0) ∷ [])
+      (stateWith s true (s .cart .chip) (set (s .memory) (sramPlace a) v))
+  -- GBATEK's own addresses
+  pub byteAt : (a : ℕ) → a < 32768 → sramPlace (bus a) ≡ a
+
+abbrev pub SramClaim : Type 0
+SramClaim = (s : State) → Usable s → s .cart .kind ≡ Sram → SramBytes s
 
 -- flash: "64K .. Panasonic 1B32h .. 128K Sanyo 1362h"
 pub data FlashPart : SaveType → ℕ → Type 0 where
@@ -65,26 +72,35 @@ writes = map (λ w. saveWrite (w .address) (w .value))
 pub record FlashCommands (word : ℕ) (s : State) : Type 0 where
   pub accepts : (ws : List Write) → calls (writes ws) s ≡ ran [] (withFlash s (written ws (flashOf s)))
   pub shows : (a : ℕ) → calls (saveRead a ∷ []) s ≡ ran (flashRead word (s .cart .chip .flash) (s .memory) a ∷ []) s
-  pub does : s .cart .chip .flash .state ≡ 0 → flash.Commands (flashOf s)
+  pub does : s .cart .chip .flash .state ≡ 0 → flash.Commands (flashOf s) × flash.GbatekCommands (flashOf s)
   pub programRead : s .cart .chip .flash .state ≡ 0 → s .cart .chip .flash .id ≡ false
+      → (t : At) (a v c : ℕ)
+      → calls (writes (program t a v) ++ (saveRead c ∷ [])) s .given
+      ≡ cond (eqb (placeOf (flashOf s) c) (placeOf (flashOf s) a)) v (getD (s .memory) (placeOf (flashOf s) c) 0) ∷ []
+  -- at GBATEK's own addresses
+  pub gbatekRead : s .cart .chip .flash .state ≡ 0 → s .cart .chip .flash .id ≡ false
       → (a v c : ℕ) → a < 65536 → c < 65536
-      → calls (writes (program a v) ++ (saveRead (bus c) ∷ [])) s .given
+      → calls (writes (program gbatek (bus a) v) ++ (saveRead (bus c) ∷ [])) s .given
       ≡ cond (eqb c a) v (getD (s .memory) (base (flashOf s) + c) 0) ∷ []
 
--- serial EEPROM: every list of bits in, and any number of bits out, is accepted and does what it does to the chip
+abbrev pub FlashClaim : Type 0
+FlashClaim = (word : ℕ) (s : State) → Usable s → FlashPart (s .cart .kind) word → FlashCommands word s
+
+-- serial EEPROM: every list of halfwords in, and any number of bits out, is accepted and does what it does to the chip
 pub record SerialBits (s : State) : Type 0 where
   pub accepts : (vs : List ℕ) → calls (map eepromWrite vs) s ≡ ran [] (withEeprom s (fed vs (eepromOf s)))
   pub gives : (n : ℕ) → calls (replicate n eepromRead) s
       ≡ ran (drawn n (s .cart .chip .eeprom) (s .memory)) (withChip s (drained n (s .cart .chip .eeprom)))
-  pub idle : s .cart .chip .eeprom .phase ≡ Opcode → s .cart .chip .eeprom .count ≡ 0
-      → eeprom.Idle (s .cart .chip .eeprom)
 
--- a command by DMA: the announcement of its halfwords, then its bits; "68 bits come out"
-abbrev pub write : ℕ → ℕ → ℕ → List Call
-write w block word = eepromBeginDma (w + 67) ∷ map eepromWrite (writeBlock w block word)
+abbrev pub SerialBitsClaim : Type 0
+SerialBitsClaim = (s : State) → Usable s → usesEeprom (s .cart .kind) ≡ true → SerialBits s
 
-abbrev pub read : ℕ → ℕ → List Call
-read w block = (eepromBeginDma (w + 3) ∷ map eepromWrite (setAddress w block)) ++ replicate 68 eepromRead
+-- a command by DMA: the announcement of its halfwords, then these; "68 bits come out"
+abbrev pub write : ℕ → List ℕ → List Call
+write w halfwords = eepromBeginDma (w + 67) ∷ map eepromWrite halfwords
+
+abbrev pub read : ℕ → List ℕ → List Call
+read w halfwords = (eepromBeginDma (w + 3) ∷ map eepromWrite halfwords) ++ replicate 68 eepromRead
 
 -- the state after a command: the flag, the halfwords told, the block named, the read place left, the memory
 abbrev pub behind : State → Bool → ℕ → ℕ → ℕ → List ℕ → State
@@ -98,18 +114,41 @@ withWord m block word = withPart m (8 * block) (digits 256 8 word)
 
 -- of a chip that awaits a command, at either width
 pub record SerialCommands (w : ℕ) (s : State) : Type 0 where
-  pub writes : (block word : ℕ) → block < 2 ^ w → word < 2 ^ 64
-      → calls (write w block word) s
+  pub writes : (block word : ℕ) (vs : List ℕ) → Writing w block word vs
+      → calls (write w vs) s
       ≡ ran []
       (behind s true (w + 67) (block % 1024) (s .cart .chip .eeprom .place) (withWord (s .memory) (block % 1024) word))
-  pub reads : (block : ℕ) → block < 2 ^ w
-      → calls (read w block) s
+  pub reads : (block : ℕ) (vs : List ℕ) → Addressing w block vs
+      → calls (read w vs) s
       ≡ ran (readOut (blockOf (s .memory) (block % 1024)))
       (behind s (s .cart .dirty) (w + 3) (block % 1024) 0 (s .memory))
   -- a read gives what the last write stored, and other blocks are untouched
-  pub writeRead : (block word other : ℕ) → block < 2 ^ w → word < 2 ^ 64 → other < 2 ^ w
-      → calls (write w block word ++ read w other) s .given
+  pub writeRead : (block word other : ℕ) (vs us : List ℕ) → Writing w block word vs → Addressing w other us
+      → calls (write w vs ++ read w us) s .given
       ≡ replicate 4 0 ++ cond (eqb (block % 1024) (other % 1024)) (bits 64 word) (bitsOfBytes (blockOf (s .memory)
       (other % 1024)))
   -- "reading then gives .. 1 when ready"
   pub ready : calls (eepromRead ∷ []) s ≡ ran (1 ∷ []) s
+
+abbrev pub SerialClaim : Type 0
+SerialClaim =
+    (w : ℕ) (s : State) → Width w → Usable s → usesEeprom (s .cart .kind) ≡ true
+    → eeprom.Idle (s .cart .chip .eeprom) → SerialCommands w s
+
+-- a state that a list of calls reaches from a fresh cartridge
+pub record Reached (s : State) : Type 0 where
+  pub image : List ℕ
+  pub memory : List ℕ
+  pub list : List Call
+  pub opens : fromBytes image memory .refusal ≡ 0
+  pub leads : calls list (fromBytes image memory .next) .last ≡ s
+
+-- where the claims above hold: each call, a restore and an import lead from a usable state to one; a reached state is
+-- usable, and where its serial chip awaits a command, acc is 0
+pub record UsableStates : Type 0 where
+  pub stays : (c : Call) (d : List ℕ) (s : State) → Usable s → Usable (step c d s .next)
+  pub restored : (b : List ℕ) (s : State) → areBytes b ≡ true → Usable s → Usable (restore b s .next)
+  pub imported : (f : List ℕ) (s : State) → Usable s → Usable (importSave f s .next)
+  pub reached : (s : State) → Reached s → Usable s
+  pub acc0 : (s : State) → Reached s → s .cart .chip .eeprom .phase ≡ Opcode → s .cart .chip .eeprom .count ≡ 0
+      → s .cart .chip .eeprom .acc ≡ 0

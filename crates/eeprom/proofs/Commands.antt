@@ -2,7 +2,7 @@
 use mathlib.Core.Path.{_≡_, refl, sym, ap, subst, _∙_}
 use mathlib.Core.Logic.{_≢_}
 use mathlib.Core.Bool.{Bool, true, cond}
-use mathlib.Core.List.{List, [], _∷_, _++_}
+use mathlib.Core.List.{List, [], _∷_, _++_, map, map-append}
 use Prim.Native.Nat.{ℕ, zero, suc, _+_, _*_, _-_, _/_, _%_, _^_, _≤_, _<_}
 use native.Mathlib.Nat.{add-zero, mod-mod, div-one, div-eq-of-lt}
 use native.Mathlib.Numerals.{add-one}
@@ -19,7 +19,7 @@ use Rattle.eeprom.specs.declared.EepromPhase.{EepromPhase}
 use Rattle.eeprom.specs.declared.EepromPhase.the-variants.{Opcode, ReadAddress, WriteAddress, WriteData, ReadStop, WriteStop, Reading}
 use Rattle.eeprom.specs.declared.Eeprom.{Eeprom}
 use Rattle.eeprom.specs.Eeprom.{w as widthOf, wOf, tells6, tells14, beginDma, serial, shiftIn, opcodePhase, opcodeBit, turned, writeBit, bitIn, bitOfBlock, readBit, afterRead}
-use Rattle.eeprom.specs.Gbatek.{bits, setAddress, writeBlock, bitsOfBytes, readOut, fed, drawn, drained, Idle, held, Width, six, fourteen, blockOf, Commands, Abandons}
+use Rattle.eeprom.specs.Gbatek.{bits, setAddress, writeBlock, Carries, bitsOfBytes, readOut, fed, drawn, drained, held, Width, six, fourteen, blockOf, SerialChipClaim, OpcodeLost, Abandons}
 
 fed-append : (xs ys : List ℕ) (x : Held Eeprom) → fed (xs ++ ys) x ≡ fed ys (fed xs x)
 unfolding fed
@@ -80,33 +80,47 @@ module _ (e : Eeprom) where
       (subst (λ (i : ℕ). fed (bits i y) (at p 0 k r (y / 2 ^ i) m d) ≡ full t k r y m d) q
       (collects t (n - 1) 0 y k r m d (omega arith) (omega (arith, pow-mono h))))
 
-  opens-read : (k r : ℕ) (m : List ℕ) (d : Bool) → fed (1 ∷ 1 ∷ []) (at Opcode 0 k r 0 m d) ≡ at ReadAddress 0 k r 0 m d
-  unfolding digits opcodePhase
-  opens-read k r m d = phase opcode 3 k r m d (omega arith) (omega arith) (omega arith)
+  -- two bits after any acc
+  abbrev opcodeOf : ℕ → ℕ → ℕ → ℕ
+  opcodeOf a b c = (2 * ((2 * a + b % 2) % 2 ^ 64) + c % 2) % 2 ^ 64
 
-  opens-write : (k r : ℕ) (m : List ℕ) (d : Bool) → fed (1 ∷ 0 ∷ []) (at Opcode 0 k r 0 m d) ≡ at WriteAddress 0 k r 0 m d
-  unfolding digits opcodePhase
-  opens-write k r m d = phase opcode 2 k r m d (omega arith) (omega arith) (omega arith)
+  two-bits : (k r a b c : ℕ) (m : List ℕ) (d : Bool) → fed (b ∷ c ∷ []) (at Opcode 0 k r a m d) ≡ at (opcodePhase (opcodeOf a b c)) 0 k r 0 m d
+  unfolding fed
+  two-bits k r a b c m d = ap (λ (x : Held Eeprom). bitIn x c) (more opcode 0 k r a m d b (omega arith)) ∙ last opcode 1 k r ((2 * a + b % 2) % 2 ^ 64) m d c refl
 
-  whole-write : (block y k r : ℕ) (m : List ℕ) (d : Bool) → 0 < wOf e → wOf e ≤ 64 → block < 2 ^ wOf e → y < 2 ^ 64
-      → fed (writeBlock (wOf e) block y) (at Opcode 0 k r 0 m d) ≡ at Opcode 0 (block % 1024) r 0 (withPart m (8 * (block % 1024)) (digits 256 8 y)) true
+  opens-read : (k r a : ℕ) (m : List ℕ) (d : Bool) → a % 2 ^ 62 ≡ 0 → fed (1 ∷ 1 ∷ []) (at Opcode 0 k r a m d) ≡ at ReadAddress 0 k r 0 m d
+  unfolding opcodePhase
+  opens-read k r a m d h = let q : opcodeOf a 1 1 ≡ 3 = omega arith in two-bits k r a 1 1 m d ∙ rw q
+
+  opens-write : (k r a : ℕ) (m : List ℕ) (d : Bool) → a % 2 ^ 62 ≡ 0 → fed (1 ∷ 0 ∷ []) (at Opcode 0 k r a m d) ≡ at WriteAddress 0 k r 0 m d
+  unfolding opcodePhase
+  opens-write k r a m d h = let q : opcodeOf a 1 0 ≡ 2 = omega arith in two-bits k r a 1 0 m d ∙ rw q
+
+  opens-none : (k r a b c : ℕ) (m : List ℕ) (d : Bool) → a % 2 ^ 62 ≢ 0 → fed (b ∷ c ∷ []) (at Opcode 0 k r a m d) ≡ at Opcode 0 k r 0 m d
+  unfolding opcodePhase
+  opens-none k r a b c m d h =
+      let q : 4 ≤ opcodeOf a b c = omega arith in
+      two-bits k r a b c m d ∙ rw (ne-eqb (opcodeOf a b c) 3 (omega (arith, q)), ne-eqb (opcodeOf a b c) 2 (omega (arith, q)))
+
+  whole-write : (block y z k r a : ℕ) (m : List ℕ) (d : Bool) → a % 2 ^ 62 ≡ 0 → 0 < wOf e → wOf e ≤ 64 → block < 2 ^ wOf e → y < 2 ^ 64
+      → fed (writeBlock (wOf e) block y z) (at Opcode 0 k r a m d) ≡ at Opcode 0 (block % 1024) r 0 (withPart m (8 * (block % 1024)) (digits 256 8 y)) true
   unfolding writeBlock fed bitIn writeBit turned stored
-  whole-write block y k r m d h0 h hb hy =
-      fed-append (1 ∷ 0 ∷ []) (bits (wOf e) block ++ (bits 64 y ++ (0 ∷ []))) (at Opcode 0 k r 0 m d)
-      ∙ ap (fed (bits (wOf e) block ++ (bits 64 y ++ (0 ∷ [])))) (opens-write k r m d)
-      ∙ fed-append (bits (wOf e) block) (bits 64 y ++ (0 ∷ [])) (at WriteAddress 0 k r 0 m d)
-      ∙ ap (fed (bits 64 y ++ (0 ∷ []))) (phase writeAt block k r m d h0 h hb)
-      ∙ fed-append (bits 64 y) (0 ∷ []) (at WriteData 0 (block % 1024) r 0 m d)
-      ∙ ap (fed (0 ∷ [])) (phase word y (block % 1024) r m d (omega arith) (omega arith) hy)
+  whole-write block y z k r a m d ha h0 h hb hy =
+      fed-append (1 ∷ 0 ∷ []) (bits (wOf e) block ++ (bits 64 y ++ (z ∷ []))) (at Opcode 0 k r a m d)
+      ∙ ap (fed (bits (wOf e) block ++ (bits 64 y ++ (z ∷ [])))) (opens-write k r a m d ha)
+      ∙ fed-append (bits (wOf e) block) (bits 64 y ++ (z ∷ [])) (at WriteAddress 0 k r 0 m d)
+      ∙ ap (fed (bits 64 y ++ (z ∷ []))) (phase writeAt block k r m d h0 h hb)
+      ∙ fed-append (bits 64 y) (z ∷ []) (at WriteData 0 (block % 1024) r 0 m d)
+      ∙ ap (fed (z ∷ [])) (phase word y (block % 1024) r m d (omega arith) (omega arith) hy)
 
-  whole-address : (block k r : ℕ) (m : List ℕ) (d : Bool) → 0 < wOf e → wOf e ≤ 64 → block < 2 ^ wOf e
-      → fed (setAddress (wOf e) block) (at Opcode 0 k r 0 m d) ≡ at Reading 0 (block % 1024) 0 0 m d
+  whole-address : (block z k r a : ℕ) (m : List ℕ) (d : Bool) → a % 2 ^ 62 ≡ 0 → 0 < wOf e → wOf e ≤ 64 → block < 2 ^ wOf e
+      → fed (setAddress (wOf e) block z) (at Opcode 0 k r a m d) ≡ at Reading 0 (block % 1024) 0 0 m d
   unfolding setAddress fed bitIn writeBit turned stored
-  whole-address block k r m d h0 h hb =
-      fed-append (1 ∷ 1 ∷ []) (bits (wOf e) block ++ (0 ∷ [])) (at Opcode 0 k r 0 m d)
-      ∙ ap (fed (bits (wOf e) block ++ (0 ∷ []))) (opens-read k r m d)
-      ∙ fed-append (bits (wOf e) block) (0 ∷ []) (at ReadAddress 0 k r 0 m d)
-      ∙ ap (fed (0 ∷ [])) (phase readAt block k r m d h0 h hb)
+  whole-address block z k r a m d ha h0 h hb =
+      fed-append (1 ∷ 1 ∷ []) (bits (wOf e) block ++ (z ∷ [])) (at Opcode 0 k r a m d)
+      ∙ ap (fed (bits (wOf e) block ++ (z ∷ []))) (opens-read k r a m d ha)
+      ∙ fed-append (bits (wOf e) block) (z ∷ []) (at ReadAddress 0 k r 0 m d)
+      ∙ ap (fed (z ∷ [])) (phase readAt block k r m d h0 h hb)
 
   -- bits out
   abbrev outs : List ℕ → ℕ → ℕ → ℕ → List ℕ
@@ -132,8 +146,8 @@ module _ (e : Eeprom) where
 block-spelled : (m : List ℕ) (k : ℕ) → 8 * k + 8 ≤ length m → blockOf m k ≡ spelled m (8 * k) 0 8
 block-spelled m k h = subst (λ (q : ℕ). take 8 (drop q m) ≡ spelled m (8 * k) 0 8) (add-zero (8 * k)) (spells m (8 * k) 8 0 (omega arith))
 
-idle-at : (e : Eeprom) → Idle e → e ≡ serial e Opcode 0 (e .block) (e .place) 0
-idle-at e i = λ j. serial e (i .phase0 j) (i .count0 j) (e .block) (e .place) (i .acc0 j)
+idle-at : (e : Eeprom) → e .phase ≡ Opcode → e .count ≡ 0 → e ≡ serial e Opcode 0 (e .block) (e .place) (e .acc)
+idle-at e p c = λ j. serial e (p j) (c j) (e .block) (e .place) (e .acc)
 
 width-in : {w : ℕ} → Width w → (0 < w) × (w ≤ 64)
 width-in six = omega arith
@@ -149,26 +163,67 @@ unfolding beginDma tells6 tells14 widthOf
 told-read six e = refl
 told-read fourteen e = refl
 
-pub commands : (w : ℕ) → Width w → (e : Eeprom) → Idle e → Commands w e
-commands w x e i =
-    let r : Eeprom = serial e Opcode 0 (e .block) (e .place) 0 in
+-- a halfword counts by its bit 0
+abbrev lowBits : List ℕ → List ℕ
+lowBits vs = map (λ v. v % 2) vs
+
+bit-low : (x : Held Eeprom) (v : ℕ) → bitIn x v ≡ bitIn x (v % 2)
+unfolding bitIn
+bit-low x v = rw (mod-mod v 2)
+
+fed-low : (vs : List ℕ) (x : Held Eeprom) → fed vs x ≡ fed (lowBits vs) x
+unfolding fed
+fed-low [] x = refl
+fed-low (v ∷ vs) x = ap (fed vs) (bit-low x v) ∙ fed-low vs (bitIn x (v % 2))
+
+fed-carried : (vs bs : List ℕ) (x : Held Eeprom) → Carries vs bs → fed vs x ≡ fed bs x
+fed-carried vs bs x c = fed-low vs x ∙ ap (λ (l : List ℕ). fed l x) c
+
+-- and bits are their own
+low-bits : (n x : ℕ) → lowBits (bits n x) ≡ bits n x
+unfolding digits
+low-bits zero x = refl
+low-bits (suc n) x = rw (mod-mod (x / 2 ^ n) 2, low-bits n x)
+
+low-write : (w block y : ℕ) → lowBits (writeBlock w block y 0) ≡ writeBlock w block y 0
+unfolding writeBlock
+low-write w block y =
+    simp (map-append (λ (v : ℕ). v % 2) (bits w block), map-append (λ (v : ℕ). v % 2) (bits 64 y), low-bits w block, low-bits 64 y)
+
+low-address : (w block : ℕ) → lowBits (setAddress w block 0) ≡ setAddress w block 0
+unfolding setAddress
+low-address w block = simp (map-append (λ (v : ℕ). v % 2) (bits w block), low-bits w block)
+
+pub serial-chip : SerialChipClaim
+serial-chip w e x i =
+    let r : Eeprom = serial e Opcode 0 (e .block) (e .place) (e .acc) in
+    let at0 : e ≡ r = idle-at e (i .phase0) (i .count0) in
     record {
-      writes = λ block y m d q hb hy.
-          ap (λ (c : Eeprom). fed (writeBlock w block y) (held c m d)) (idle-at e i)
-          ∙ subst (λ (z : ℕ). fed (writeBlock z block y) (held r m d) ≡ held (serial e Opcode 0 (block % 1024) (e .place) 0) (withPart m (8 * (block % 1024)) (digits 256 8 y)) true) q
-          (whole-write e block y (e .block) (e .place) m d (rw q (width-in x .0)) (rw q (width-in x .1)) (rw q hb) hy);
-      addresses = λ block m d q hb.
-          ap (λ (c : Eeprom). fed (setAddress w block) (held c m d)) (idle-at e i)
-          ∙ subst (λ (z : ℕ). fed (setAddress z block) (held r m d) ≡ held (serial e Reading 0 (block % 1024) 0 0) m d) q
-          (whole-address e block (e .block) (e .place) m d (rw q (width-in x .0)) (rw q (width-in x .1)) (rw q hb));
+      writes = λ block y vs m d q c.
+          let k : ℕ = block % 1024 in
+          fed-carried vs (writeBlock w block y (c .last)) (held e m d) (c .carries)
+          ∙ ap (λ (z : Eeprom). fed (writeBlock w block y (c .last)) (held z m d)) at0
+          ∙ subst (λ (z : ℕ). fed (writeBlock z block y (c .last)) (held r m d) ≡ held (serial e Opcode 0 k (e .place) 0) (withPart m (8 * k) (digits 256 8 y)) true) q
+          (whole-write e block y (c .last) (e .block) (e .place) (e .acc) m d (i .accOk) (rw q (width-in x .0)) (rw q (width-in x .1)) (rw q (c .blockOk)) (c .wordOk));
+      addresses = λ block vs m d q c.
+          fed-carried vs (setAddress w block (c .last)) (held e m d) (c .carries)
+          ∙ ap (λ (z : Eeprom). fed (setAddress w block (c .last)) (held z m d)) at0
+          ∙ subst (λ (z : ℕ). fed (setAddress z block (c .last)) (held r m d) ≡ held (serial e Reading 0 (block % 1024) 0 0) m d) q
+          (whole-address e block (c .last) (e .block) (e .place) (e .acc) m d (i .accOk) (rw q (width-in x .0)) (rw q (width-in x .1)) (rw q (c .blockOk)));
       reads = λ block m h.
           let k : ℕ = block % 1024 in
           draws e 68 0 k m refl ∙ outs-by e m k ∙ ap readOut (sym (block-spelled m k h));
       ends = λ block. drains e 67 0 block refl;
       announcesWrite = told-write x e;
       announcesRead = told-read x e;
+      gbatekWrite = λ block y hb hy. record { blockOk = hb; wordOk = hy; last = 0; carries = low-write w block y };
+      gbatekAddress = λ block hb. record { blockOk = hb; last = 0; carries = low-address w block };
     }
 
-pub abandons : (e : Eeprom) → e .phase ≡ Reading → Abandons e
+pub opcode-lost : OpcodeLost
+opcode-lost e a b m d p c h =
+    ap (λ (z : Eeprom). fed (a ∷ b ∷ []) (held z m d)) (idle-at e p c) ∙ opens-none e (e .block) (e .place) (e .acc) a b m d h
+
+pub abandons : Abandons
 unfolding opcodeBit turned writeBit
-abandons e p = record { begins = λ b. rw p }
+abandons e b p = rw p

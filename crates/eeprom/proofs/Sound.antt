@@ -55,7 +55,7 @@ width-by true true n h f = omega arith
 width-by true false n h f = omega arith
 width-by false l n h f = (f refl, h)
 
-told-6 : (n : ℕ) → widthAllowed n ≡ true → eqb n 0 ≡ false → 6 ≤ n
+pub told-6 : (n : ℕ) → widthAllowed n ≡ true → eqb n 0 ≡ false → 6 ≤ n
 unfolding widthAllowed
 told-6 n e z = by (eqb n 6) (eqb n 14) (eqb-true n 6) (eqb-true n 14) (rw z at e)
   where
@@ -80,7 +80,7 @@ block-1024 true k h = h
 block-1024 false k h = omega arith
 
 -- a phase begins with count 0
-limit-pos : (p : EepromPhase) (w : ℕ) → 6 ≤ w → 0 < countLimit p w
+pub limit-pos : (p : EepromPhase) (w : ℕ) → 6 ≤ w → 0 < countLimit p w
 limit-pos Opcode w h = omega arith
 limit-pos ReadAddress w h = omega arith
 limit-pos WriteAddress w h = omega arith
@@ -177,7 +177,7 @@ sound-read e s =
     s
 
 -- a wider address: a DMA announcement, or a load that shows a large chip
-limit-mono : (p : EepromPhase) (v w n : ℕ) → v ≤ w → n < countLimit p v → n < countLimit p w
+pub limit-mono : (p : EepromPhase) (v w n : ℕ) → v ≤ w → n < countLimit p v → n < countLimit p w
 limit-mono Opcode v w n h k = k
 limit-mono ReadAddress v w n h k = omega arith
 limit-mono WriteAddress v w n h k = omega arith
@@ -203,7 +203,7 @@ sound-told e n l s f a h k =
     }
 
 -- question 5 keeps the count below the width that is told
-told-count : (p : EepromPhase) (v n : ℕ) → not (isAddress p) || ltb n 6 ≡ true → n < countLimit p v → n < countLimit p 6
+pub told-count : (p : EepromPhase) (v n : ℕ) → not (isAddress p) || ltb n 6 ≡ true → n < countLimit p v → n < countLimit p 6
 told-count Opcode v n h k = k
 told-count ReadAddress v n h k = ltb-true n 6 h
 told-count WriteAddress v n h k = ltb-true n 6 h
@@ -217,7 +217,7 @@ least-6 true = omega arith
 least-6 false = omega arith
 
 -- where 6 is told, question 5 asks the rest
-asked : (x y z : Bool) → x ≡ true → not x || y || z ≡ true → y || z ≡ true
+pub asked : (x y z : Bool) → x ≡ true → not x || y || z ≡ true → y || z ≡ true
 asked x y z q h = rw q at h
 
 pub sound-dma : (words : ℕ) (e : Eeprom) → Sound e → dmaQuestion words e .yes ≡ true → Sound (beginDma words e)
@@ -229,7 +229,7 @@ sound-dma words e s h =
     (sound-told e 14 true s (λ q. refl) refl (omega arith) (limit-mono (e .phase) (wOf e) 14 (e .count) (w-14 e s) (s .serialOk .countOk)))
     s)
 
-w-mono : (x l b : Bool) (n : ℕ) → cond x (cond l 14 6) n ≤ cond x (cond (l || b) 14 6) n
+pub w-mono : (x l b : Bool) (n : ℕ) → cond x (cond l 14 6) n ≤ cond x (cond (l || b) 14 6) n
 w-mono true true b n = omega arith
 w-mono true false true n = omega arith
 w-mono true false false n = omega arith

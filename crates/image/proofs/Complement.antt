@@ -23,9 +23,9 @@ balance (b ∷ l) x y h =
     let p : b < 256 = ltb-true b 256 (and-left (ltb b 256) (areBytes l) h) in
     balance l (less x b) (y + b) (and-right (ltb b 256) (areBytes l) h) ∙ omega arith
 
-pub header-complement : (image : List ℕ) → areBytes image ≡ true → HeaderComplement image
+pub header-complement : HeaderComplement
 unfolding headerSum less
 header-complement image h =
     let l : List ℕ = slice 0xa0 0xbd image in
     let e = balance l 0 0x19 (bytes-drop 0xa0 (take 0xbd image) (bytes-take 0xbd image h)) in
-    record { sums = omega arith; isByte = omega arith }
+    (omega arith, omega arith)
