@@ -76,6 +76,14 @@ fn an_open_cartridge_resumes_as_a_fresh_one_does() {
 }
 
 #[test]
+fn the_chip_record_is_the_states_whatever_the_file() {
+    let mut cart = Cartridge::open(&game::image("TEST", "EEPROM_V")).unwrap();
+    let state = State { file: Some(vec![0; 8192]), ..cart.state() };
+    cart.resume(&state).unwrap();
+    assert_eq!((cart.chip_state(), cart.memory()), (state.chip, &[0; 8192][..]));
+}
+
+#[test]
 fn the_state_of_another_cartridge_is_not_resumed() {
     let mut longer = game::image("TEST", "SRAM_V");
     longer.push(0);
