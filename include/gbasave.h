@@ -5,7 +5,8 @@
  * WHAT IT IS. A set of calls that keep no state of their own. The image, the save memory and the record belong to the
  * caller, who passes them to each call. No call uses them after it has returned. The part allocates nothing, opens no
  * file and has no variables of its own. A call takes a few KiB of stack at most. The archive needs three functions
- * from outside: memcpy, memmove and memset. Every call ends.
+ * from outside: memcpy, memmove and memset. It may call them with length 0, and then with any pointer, also NULL.
+ * Every call ends.
  *
  * THE RECORD is 24 bytes. It holds all data of a cartridge except its image and its memory. It contains no pointer: it
  * may be copied, stored and moved like any other bytes. gbasave_from_bytes writes it.
@@ -16,7 +17,7 @@
  *     bytes 6-23   the chip record: the 18 bytes of gbasave_chip_state
  *
  * A record is valid if each of its fields has an allowed value. 24 bytes that are not a valid record do no harm: every
- * call that reads a record refuses them with 2.
+ * call that reads a record refuses them with 2. The caller may read the fields, and may set the changed flag to 0 or 1.
  *
  * KINDS.
  *
@@ -28,8 +29,8 @@
  *     4  GBASAVE_KIND_EEPROM512      8,192           its first 512 bytes; the memory once the chip is known to be large
  *     5  GBASAVE_KIND_EEPROM8K       8,192           the same; this kind is large from the start
  *
- * RETURN VALUES. Every call returns 0 (accepted) or the number of a refusal. A call asks questions about its
- * arguments, in the order that its comment gives. It returns the number of the first question to which the answer is
+ * RETURN VALUES. Every call but gbasave_version returns 0 (accepted) or the number of a refusal. It asks questions about
+ * its arguments, in the order that its comment gives. It returns the number of the first question to which the answer is
  * no, or 0 if there is no such question. gbasave_refusal_text returns a text for each number. Values are returned
  * through out-parameters (uint32_t *). The questions are:
  *
@@ -53,9 +54,8 @@
  *
  * WHAT THE CALLER HAS TO ENSURE, in every call. A buffer is a pointer and a length in bytes. (For the state of
  * gbasave_chip_state the length is 18.)
- *   - No pointer is NULL: not to a record, not to an out-parameter, not to a buffer. If a buffer's length is 0, its
- *     pointer may be any pointer but NULL, and nothing is read or written through it. (With this archive NULL with
- *     length 0 works too, and examples/c tests it. It is not promised.)
+ *   - No pointer is NULL, except that of a buffer whose length is 0. Such a pointer may be any pointer, also NULL, as
+ *     an empty std::vector has it. Nothing is read or written through it.
  *   - No two of the objects passed to one call overlap: no two of record, image, memory, file, state, destination and
  *     out-parameter.
  *   - A buffer is as long as its length says, and it can be written to if its pointer is not to const.
@@ -71,22 +71,49 @@
  * memory. The time of every other call does not grow with the size of either.
  *
  * TO PLAY.
- *   1. Call gbasave_save_size to learn how much memory the image needs.
- *   2. Pass a memory of that size to gbasave_from_bytes.
- *   3. Load the player's file with gbasave_import_save.
- *   4. Pass on the game's accesses. Bytes at 0E000000h to 0E00FFFFh go to gbasave_save_read and gbasave_save_write. On
+ *   1. Compare gbasave_version() with GBASAVE_VERSION_NUMBER. If they differ, the archive belongs to another header.
+ *   2. Call gbasave_save_size to learn how much memory the image needs.
+ *   3. Pass a memory of that size to gbasave_from_bytes.
+ *   4. Load the player's file, if there is one, with gbasave_import_save. A footer of 16 bytes is not loaded, and no
+ *      exported file has one. If later files are to have the footer, keep it and append it to them.
+ *   5. Pass on the game's accesses. Bytes at 0E000000h to 0E00FFFFh go to gbasave_save_read and gbasave_save_write. On
  *      EEPROM kinds, halfwords from gbasave_eeprom_window_start to 0DFFFFFFh go to gbasave_eeprom_read and
- *      gbasave_eeprom_write; the length of each DMA transfer there goes to gbasave_eeprom_begin_dma before the
- *      transfer's first halfword.
- *   5. When gbasave_take_save_dirty sets *flag to 1, write out the file from gbasave_save_data.
+ *      gbasave_eeprom_write; the length of each DMA transfer to or from there goes to gbasave_eeprom_begin_dma before
+ *      the transfer's first halfword. A game can cause one refusal here, 5. The chip is then unchanged, and the game
+ *      goes on.
+ *   6. From time to time, and at the end, call gbasave_take_save_dirty. If it sets *flag to 1, write out the file from
+ *      gbasave_save_data.
  *
- * STATES. To take a state, keep the file from gbasave_save_data and the 18 bytes from gbasave_chip_state. To resume
- * it, in this process or another: open the same image with gbasave_from_bytes, load the file, if there is one, with
- * gbasave_load_save, and pass the 18 bytes to gbasave_restore_chip_state. It is proved that every later answer, file
- * and state is then the same as if no state had been taken and resumed. This holds after any call, also between two
- * bits of a serial command, and any number of times. The proof does not cover the changed flag, which is not in the
- * state; byte writes to an EEPROM kind; or cartridges into which other states were restored than those taken in this
- * way.
+ * TO TAKE A STATE, keep:
+ *   - the file from gbasave_save_data, if there is one (*length is not 0);
+ *   - the 18 bytes from gbasave_chip_state;
+ *   - what identifies the cartridge: the kind and the image's length (both in the record), and gbasave_rom_crc of the
+ *     image. Compute it when the image is opened.
+ * The file and the 18 bytes do not say to which cartridge they belong. gbasave_load_save and
+ * gbasave_restore_chip_state accept those of another cartridge, also of another kind, and overwrite its save. Only the
+ * caller can prevent this.
+ *
+ * TO RESUME A STATE, in this process or in another:
+ *   1. Compare the kind, the image's length and the CRC with those of the cartridge that is to go on. If one of them
+ *      differs, stop: the state belongs to another cartridge.
+ *   2. If that cartridge is not open, open it with gbasave_from_bytes. If it is open, keep its record and its memory:
+ *      opening it again makes no difference except to the flag, and takes the time of a search of the image.
+ *   3. Pass the 18 bytes to gbasave_restore_chip_state. If they are refused, stop: the cartridge is unchanged.
+ *   4. If there is a file, pass it to gbasave_load_save, and set the record's byte GBASAVE_RECORD_FLAG, the changed
+ *      flag, to 1.
+ *   5. Pass the 18 bytes to gbasave_restore_chip_state again, since the load may have made the chip large.
+ * The changed flag is not in a state, and neither the load nor the restore sets it. But the memory now holds the
+ * state's file, and not the one that was written out last. Without the flag, a host that writes the file only when the
+ * flag is 1 would not write it, and the save would be lost.
+ *
+ * WHAT IS PROVED OF STATES. Every later answer, file and state is the same as if no state had been taken and resumed.
+ * This holds for every list of these nine calls, refused ones included: gbasave_save_read, gbasave_save_write,
+ * gbasave_eeprom_begin_dma, gbasave_eeprom_write, gbasave_eeprom_read, gbasave_load_save, gbasave_save_data,
+ * gbasave_chip_state and gbasave_take_save_dirty. It holds wherever between the calls states are taken and resumed,
+ * also between two bits of a serial command, and however often. It does not cover the changed flag, lists with a byte
+ * write to an EEPROM kind, gbasave_import_save, or the restoring of other states. It is also proved that load and
+ * restore on the open cartridge of the same image leave the same memory as opening, load and restore, and the same
+ * record except for the flag: opening sets it to 0, load and restore keep it.
  */
 #ifndef GBASAVE_H
 #define GBASAVE_H
@@ -98,7 +125,9 @@
 extern "C" {
 #endif
 
-#define GBASAVE_VERSION "0.1.0"
+/* The version of this header and of its archive, as a text and as a number: major * 10000 + minor * 100 + patch. */
+#define GBASAVE_VERSION "0.2.0"
+#define GBASAVE_VERSION_NUMBER 200
 
 /* Sizes in bytes. */
 #define GBASAVE_RECORD_SIZE 24
@@ -186,6 +215,14 @@ typedef struct gbasave_record {
  * A call writes and changes nothing else.
  */
 
+/* ---- The version --------------------------------------------------------------------------------------------------- */
+
+/*
+ * Returns the version of the archive: GBASAVE_VERSION_NUMBER of the header that belongs to it. It is not the number of
+ * a refusal.
+ */
+uint32_t gbasave_version(void);
+
 /* ---- The image ----------------------------------------------------------------------------------------------------- */
 
 /*
@@ -268,7 +305,9 @@ uint32_t gbasave_rom_crc(const uint8_t *image, size_t image_length, uint32_t *va
  *   Asks:    1, 3 (for the image's kind)
  *   Changes: record, whatever it held before: image length and kind; flag 0; chip record 0, except that large is 1 for
  *            EEPROM8K. memory: every byte becomes FFh.
- *   Refused: The record becomes 24 zeros, which are not a valid record. The memory keeps its bytes.
+ *   Refused: The record becomes 24 zeros, which are not a valid record. The memory keeps its bytes. A cartridge whose
+ *            record is passed here is lost if the call is refused. To keep it, pass a second record, and copy it over
+ *            the first if the call is accepted.
  */
 uint32_t gbasave_from_bytes(gbasave_record *record, const uint8_t *image, size_t image_length, uint8_t *memory,
                             size_t memory_length);
@@ -359,7 +398,7 @@ uint32_t gbasave_save_data(const gbasave_record *record, const uint8_t *memory, 
 
 /*
  * Imports a player's file, if its length is one that gbasave_save_fit takes for the kind. The kept part of the file,
- * without a footer, is loaded as gbasave_load_save does it.
+ * without a footer, is loaded as gbasave_load_save does it. A footer is the file's last 16 bytes; it is not kept.
  *   Asks:    2, 3, 14
  *   Writes:  *kept: how many of the file's bytes were loaded.
  *   Changes: memory; record (large). The flag keeps its value.

@@ -11,9 +11,13 @@ uint32_t cartridge_open(cartridge *cart, const uint8_t *image, size_t image_leng
     cart->memory = allocate(size);
     cart->length = size;
     uint32_t answer = gbasave_from_bytes(&cart->record, image, image_length, cart->memory, cart->length);
-    if (answer != GBASAVE_ACCEPTED)
+    if (answer != GBASAVE_ACCEPTED) {
         cartridge_close(cart);
-    return answer;
+        return answer;
+    }
+    cart->id.kind = cart->record.bytes[GBASAVE_RECORD_KIND];
+    cart->id.image_length = (uint32_t)image_length;
+    return gbasave_rom_crc(image, image_length, &cart->id.image_crc);
 }
 
 void cartridge_close(cartridge *cart)
@@ -23,9 +27,17 @@ void cartridge_close(cartridge *cart)
     cart->length = 0;
 }
 
+bool cartridge_take_changed(cartridge *cart)
+{
+    uint32_t flag;
+    accepted("flag", gbasave_take_save_dirty(&cart->record, &flag));
+    return flag == 1;
+}
+
 saved_state take_state(const cartridge *cart)
 {
     saved_state state;
+    state.id = cart->id;
     state.file = allocate(cart->length);
     accepted("export", gbasave_save_data(&cart->record, cart->memory, cart->length, state.file, cart->length, &state.length));
     accepted("chip state", gbasave_chip_state(&cart->record, state.chip));
@@ -38,16 +50,22 @@ void drop_state(saved_state *state)
     state->file = NULL;
 }
 
-uint32_t cartridge_resume(cartridge *cart, const uint8_t *image, size_t image_length, const saved_state *state)
+static bool same_cartridge(const identity *a, const identity *b)
 {
-    uint32_t answer = cartridge_open(cart, image, image_length);
+    return a->kind == b->kind && a->image_length == b->image_length && a->image_crc == b->image_crc;
+}
+
+uint32_t cartridge_resume(cartridge *cart, const saved_state *state)
+{
+    if (!same_cartridge(&cart->id, &state->id))
+        return OTHER_CARTRIDGE;
+    /* Before the load, so that a refused state changes nothing; after it, since the load may have made the chip large. */
+    uint32_t answer = gbasave_restore_chip_state(&cart->record, state->chip, sizeof state->chip);
     if (answer != GBASAVE_ACCEPTED)
         return answer;
-    if (state->length > 0)
-        answer = gbasave_load_save(&cart->record, cart->memory, cart->length, state->file, state->length);
-    if (answer == GBASAVE_ACCEPTED)
-        answer = gbasave_restore_chip_state(&cart->record, state->chip, sizeof state->chip);
-    if (answer != GBASAVE_ACCEPTED)
-        cartridge_close(cart);
-    return answer;
+    if (state->length > 0) {
+        accepted("load", gbasave_load_save(&cart->record, cart->memory, cart->length, state->file, state->length));
+        cart->record.bytes[GBASAVE_RECORD_FLAG] = 1;
+    }
+    return gbasave_restore_chip_state(&cart->record, state->chip, sizeof state->chip);
 }

@@ -3,28 +3,47 @@
 #define CARTRIDGE_H
 
 #include <gbasave.h>
+#include <stdbool.h>
+
+/* What tells one cartridge from another. */
+typedef struct identity {
+    uint32_t kind;
+    uint32_t image_length;
+    uint32_t image_crc;
+} identity;
 
 typedef struct cartridge {
     gbasave_record record;
     uint8_t *memory;
     size_t length; /* of the memory */
+    identity id;
 } cartridge;
 
-/* All that a state keeps of a cartridge. */
+/* All that a state keeps of a cartridge, and the cartridge that it belongs to. */
 typedef struct saved_state {
+    identity id;
     uint8_t chip[GBASAVE_STATE_SIZE];
     uint8_t *file;
     uint32_t length; /* of the file; 0 if the kind has none */
 } saved_state;
 
+/* Returned by cartridge_resume, beside the numbers of gbasave.h: the state belongs to another cartridge. */
+enum { OTHER_CARTRIDGE = 0x100 };
+
 /* Returns 0 or the number of a refusal. A refused cartridge need not be closed. The image is not kept. */
 uint32_t cartridge_open(cartridge *cart, const uint8_t *image, size_t image_length);
 void cartridge_close(cartridge *cart);
 
+/* Returns whether the file has to be written out, and clears the changed flag. */
+bool cartridge_take_changed(cartridge *cart);
+
 saved_state take_state(const cartridge *cart);
 void drop_state(saved_state *state);
 
-/* Opens a fresh cartridge of the same image and restores the state into it. Returns 0 or the number of a refusal. */
-uint32_t cartridge_resume(cartridge *cart, const uint8_t *image, size_t image_length, const saved_state *state);
+/*
+ * Resumes a state in an open cartridge of the same image, whatever was played on it. The file then counts as changed.
+ * Returns 0, the number of a refusal or OTHER_CARTRIDGE. If it is not 0, the cartridge is unchanged.
+ */
+uint32_t cartridge_resume(cartridge *cart, const saved_state *state);
 
 #endif

@@ -15,7 +15,7 @@ void expect(const char *what, bool so);
 /* Checks that the bytes are the same. */
 void same(const char *what, const uint8_t *a, const uint8_t *b, size_t length);
 
-/* Allocates length bytes, or one byte if length is 0, so that no pointer passed to a call is NULL. */
+/* Allocates length bytes, or one byte if length is 0. */
 uint8_t *allocate(size_t length);
 
 #endif

@@ -1,6 +1,6 @@
 /*
- * A small host. It opens images, saves on every chip, takes a state in the middle of an 81-bit write and resumes it in a
- * fresh cartridge. It checks every answer; a wrong one ends the program with status 1.
+ * A small host. It opens images, saves on every chip, takes states in the middle of an 81-bit write and resumes them in a
+ * fresh cartridge and in the open one. It checks every answer; a wrong one ends the program with status 1.
  *
  *     host           runs the examples below, on images that the program makes
  *     host IMAGE     prints what the part finds in an image file
@@ -16,6 +16,17 @@
 
 static const char *const KIND_NAMES[] = {"none",           "SRAM",              "flash, 64 KiB",
                                          "flash, 128 KiB", "EEPROM, 512 bytes", "EEPROM, 8 KiB"};
+
+/* The archive's version is the header's, and the header's text and number are the same version. */
+static void check_version(void)
+{
+    char text[16];
+    snprintf(text, sizeof text, "%d.%d.%d", GBASAVE_VERSION_NUMBER / 10000, GBASAVE_VERSION_NUMBER / 100 % 100,
+             GBASAVE_VERSION_NUMBER % 100);
+    expect("the header's version as a number and as a text", strcmp(text, GBASAVE_VERSION) == 0);
+    expect("the archive has the header's version", gbasave_version() == GBASAVE_VERSION_NUMBER);
+    printf("gbasave: the header and the archive have the same version\n");
+}
 
 static void describe(const uint8_t *image, size_t length)
 {
@@ -42,12 +53,7 @@ static void print_bytes(const char *what, const uint8_t *bytes, size_t count)
     printf("\n");
 }
 
-static uint32_t take_flag(cartridge *cart)
-{
-    uint32_t flag;
-    accepted("flag", gbasave_take_save_dirty(&cart->record, &flag));
-    return flag;
-}
+enum { FOOTER = 16 };
 
 static void sram_story(void)
 {
@@ -56,27 +62,29 @@ static void sram_story(void)
     describe(image, IMAGE_LENGTH);
     accepted("opening", cartridge_open(&cart, image, IMAGE_LENGTH));
 
-    expect("nothing stored yet", take_flag(&cart) == 0);
+    expect("nothing stored yet", !cartridge_take_changed(&cart));
     for (uint32_t i = 0; i < 4; i++)
         write_byte(&cart, 0x0E000010 + i, (uint8_t)"SAVE"[i]);
     for (uint32_t i = 0; i < 4; i++)
         expect("the bytes are stored, and read 32 KiB further on too",
                read_byte(&cart, 0x0E000010 + i) == "SAVE"[i] && read_byte(&cart, 0x0E008010 + i) == "SAVE"[i]);
     print_bytes("stored from 10h on", cart.memory + 0x10, 5);
-    expect("the flag is taken once", take_flag(&cart) == 1 && take_flag(&cart) == 0);
+    expect("the flag is taken once", cartridge_take_changed(&cart) && !cartridge_take_changed(&cart));
 
-    /* Another cartridge imports the file, with 16 bytes after it that some programs add. */
-    saved_state state = take_state(&cart);
-    uint8_t *file = allocate(state.length + 16);
-    uint32_t kept;
-    memcpy(file, state.file, state.length);
-    memset(file + state.length, 0xEE, 16);
+    /* Another cartridge imports the file, with a footer of 16 bytes that some programs add. The host keeps the footer. */
+    uint32_t length, kept;
+    uint8_t *file = allocate(cart.length + FOOTER), *written = allocate(cart.length + FOOTER);
+    accepted("export", gbasave_save_data(&cart.record, cart.memory, cart.length, file, cart.length, &length));
+    memset(file + length, 0xEE, FOOTER);
     accepted("opening", cartridge_open(&other, image, IMAGE_LENGTH));
-    accepted("import", gbasave_import_save(&other.record, other.memory, other.length, file, state.length + 16, &kept));
-    printf("  a file of %" PRIu32 " bytes is imported elsewhere, %" PRIu32 " kept\n", state.length + 16, kept);
+    accepted("import", gbasave_import_save(&other.record, other.memory, other.length, file, length + FOOTER, &kept));
+    printf("  a file of %" PRIu32 " bytes is imported elsewhere, %" PRIu32 " kept\n", length + FOOTER, kept);
     same("the other memory", other.memory, cart.memory, cart.length);
+    accepted("export", gbasave_save_data(&other.record, other.memory, other.length, written, other.length, &length));
+    memcpy(written + length, file + kept, FOOTER);
+    same("the file with its footer", written, file, length + FOOTER);
     free(file);
-    drop_state(&state);
+    free(written);
     cartridge_close(&cart);
     cartridge_close(&other);
     free(image);
@@ -115,8 +123,10 @@ static const uint8_t DATA_BYTES[] = {0x01, 0x23, 0x45, 0x67, 0x89, 0xAB, 0xCD, 0
 
 enum { UNCUT = WRITE_BITS + 1 };
 
-/* Interrupts the game after `cut` bits of the write, and goes on in a fresh cartridge. */
-static saved_state played(const uint8_t *image, int cut, bool shown)
+typedef enum where { FRESH, OPEN } where;
+
+/* Interrupts the game after `cut` bits of the write, and goes on in a fresh cartridge or in the open one. */
+static saved_state played(const uint8_t *image, int cut, where resumed, bool shown)
 {
     cartridge cart;
     uint8_t bits[WRITE_BITS];
@@ -133,8 +143,15 @@ static saved_state played(const uint8_t *image, int cut, bool shown)
             printf("  after bit %d: a file of %" PRIu32 " bytes and the chip's state\n", cut, state.length);
             print_bytes("", state.chip, GBASAVE_STATE_SIZE);
         }
-        cartridge_close(&cart);
-        accepted("resuming", cartridge_resume(&cart, image, IMAGE_LENGTH, &state));
+        if (resumed == FRESH) {
+            cartridge_close(&cart);
+            accepted("opening", cartridge_open(&cart, image, IMAGE_LENGTH));
+        } else {
+            /* What is played on after the state was taken is forgotten. */
+            accepted("DMA", gbasave_eeprom_begin_dma(&cart.record, WRITE_BITS));
+            eeprom_send(&cart, bits, WRITE_BITS);
+        }
+        accepted("resuming", cartridge_resume(&cart, &state));
         drop_state(&state);
     }
     eeprom_send(&cart, bits + sent, WRITE_BITS - sent);
@@ -160,22 +177,83 @@ static void eeprom_story(void)
 {
     uint8_t *image = make_image("EEPROM STORY", "EEPROM_V");
     describe(image, IMAGE_LENGTH);
-    saved_state uncut = played(image, UNCUT, true);
+    saved_state uncut = played(image, UNCUT, FRESH, true);
     print_bytes("uncut, file from 320h", uncut.file + 0x320, 8);
     same("block 100 of the file", uncut.file + 8 * 100, DATA_BYTES, 8);
-    saved_state resumed = played(image, 40, true);
+    saved_state resumed = played(image, 40, FRESH, true);
     print_bytes("resumed, file from 320h", resumed.file + 0x320, 8);
     same_states(&uncut, &resumed);
     drop_state(&resumed);
 
     for (int cut = 0; cut <= WRITE_BITS; cut++) {
-        resumed = played(image, cut, false);
-        same_states(&uncut, &resumed);
-        drop_state(&resumed);
+        for (where place = FRESH; place <= OPEN; place++) {
+            resumed = played(image, cut, place, false);
+            same_states(&uncut, &resumed);
+            drop_state(&resumed);
+        }
     }
-    printf("  cut after the DMA length and after each of the 81 bits: the same blocks, file and chip\n");
+    printf("  cut after the DMA length and after each of the 81 bits: the same blocks, file and chip,\n");
+    printf("  resumed in a fresh cartridge or in the open one\n");
     drop_state(&uncut);
     free(image);
+}
+
+/* Tries to resume a state that this cartridge must not take. */
+static void not_resumed(const char *what, cartridge *cart, const saved_state *state, uint32_t number, const char *why)
+{
+    saved_state before = take_state(cart);
+    expect(what, cartridge_resume(cart, state) == number);
+    saved_state after = take_state(cart);
+    same_states(&before, &after);
+    expect("the flag is unchanged", !cartridge_take_changed(cart));
+    printf("  %-24s not resumed: %s\n", what, why);
+    drop_state(&before);
+    drop_state(&after);
+}
+
+static void state_story(void)
+{
+    uint8_t *image = make_image("STATE STORY", "SRAM_V");
+    uint8_t *same_kind = make_image("OTHER STORY", "SRAM_V"), *other_kind = make_image("OTHER STORY", "FLASH_V");
+    cartridge cart, other;
+    printf("States\n");
+    accepted("opening", cartridge_open(&cart, image, IMAGE_LENGTH));
+    write_byte(&cart, 0x0E000000, 0x5A);
+    saved_state state = take_state(&cart);
+    cartridge_close(&cart);
+
+    /* The file has not been written out, and the state has no changed flag. */
+    accepted("opening", cartridge_open(&cart, image, IMAGE_LENGTH));
+    accepted("resuming", cartridge_resume(&cart, &state));
+    expect("the byte is there", read_byte(&cart, 0x0E000000) == 0x5A);
+    expect("the file counts as changed, once", cartridge_take_changed(&cart) && !cartridge_take_changed(&cart));
+    printf("  in a fresh cartridge     resumed; the file counts as changed\n");
+
+    write_byte(&cart, 0x0E000000, 0xA5);
+    expect("the file is written out", cartridge_take_changed(&cart));
+    accepted("resuming", cartridge_resume(&cart, &state));
+    expect("the byte is there again", read_byte(&cart, 0x0E000000) == 0x5A);
+    expect("the file counts as changed, once", cartridge_take_changed(&cart) && !cartridge_take_changed(&cart));
+    printf("  in the open cartridge    resumed; the file counts as changed\n");
+
+    const char *foreign = "the state belongs to another cartridge";
+    accepted("opening", cartridge_open(&other, other_kind, IMAGE_LENGTH));
+    not_resumed("in a flash cartridge", &other, &state, OTHER_CARTRIDGE, foreign);
+    cartridge_close(&other);
+    accepted("opening", cartridge_open(&other, same_kind, IMAGE_LENGTH));
+    not_resumed("in another SRAM one", &other, &state, OTHER_CARTRIDGE, foreign);
+    cartridge_close(&other);
+
+    write_byte(&cart, 0x0E000000, 0xA5);
+    expect("the file is written out", cartridge_take_changed(&cart));
+    state.chip[5] = 7;
+    not_resumed("a damaged state", &cart, &state, GBASAVE_REFUSED_STATE_PHASE,
+                gbasave_refusal_text(GBASAVE_REFUSED_STATE_PHASE));
+    drop_state(&state);
+    cartridge_close(&cart);
+    free(image);
+    free(same_kind);
+    free(other_kind);
 }
 
 static void describe_file(const char *path)
@@ -200,9 +278,11 @@ int main(int argc, char **argv)
         describe_file(argv[1]);
         return 0;
     }
+    check_version();
     sram_story();
     flash_story();
     eeprom_story();
+    state_story();
     refusals();
     empty_slices();
     return 0;

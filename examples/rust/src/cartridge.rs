@@ -3,29 +3,40 @@
 use std::fmt;
 
 use crate::answer::{accepted, sound, value};
-use crate::raw::{self, Record, RECORD_KIND, RECORD_SIZE, STATE_SIZE};
-use crate::{save_size, ChipState, Kind, Refusal};
+use crate::raw::{self, Record, RECORD_FLAG, RECORD_IMAGE_LENGTH, RECORD_KIND, RECORD_SIZE, STATE_SIZE};
+use crate::{rom_crc, save_size, ChipState, Identity, Kind, Refusal};
 
 /// A cartridge's backup chip: save memory and record. The cartridge owns both, so no call can get the wrong ones.
 #[derive(Clone, PartialEq, Eq)]
 pub struct Cartridge {
     record: Record,
     memory: Vec<u8>,
+    image_crc: u32,
 }
 
 impl Cartridge {
-    /// Opens a fresh cartridge: finds the kind in the image and erases the memory. Refused: [`Refusal::ImageLength`].
+    /// Opens a fresh cartridge: finds the kind in the image, erases the memory, and takes the image's CRC to recognise the
+    /// cartridge's states. Refused: [`Refusal::ImageLength`].
     pub fn open(image: &[u8]) -> Result<Self, Refusal> {
-        let mut cart = Self { record: [0; RECORD_SIZE], memory: vec![0; save_size(image)] };
+        let image_crc = rom_crc(image)?;
+        let mut cart = Self { record: [0; RECORD_SIZE], memory: vec![0; save_size(image)], image_crc };
         let (memory, length) = (cart.memory.as_mut_ptr(), cart.memory.len());
         accepted(unsafe { raw::gbasave_from_bytes(&mut cart.record, image.as_ptr(), image.len(), memory, length) })?;
         Ok(cart)
     }
 
+    /// Returns the kind of the backup chip.
     pub fn kind(&self) -> Kind {
         Kind::of(self.record[RECORD_KIND].into()).expect("the record has a kind")
     }
 
+    /// Returns what tells this cartridge from others. Its states carry the same.
+    pub fn identity(&self) -> Identity {
+        let image_length = self.record[RECORD_IMAGE_LENGTH].try_into().expect("a length has four bytes");
+        Identity { kind: self.kind(), image_length: u32::from_le_bytes(image_length), image_crc: self.image_crc }
+    }
+
+    /// Returns the whole save memory.
     pub fn memory(&self) -> &[u8] {
         &self.memory
     }
@@ -78,7 +89,8 @@ impl Cartridge {
         (length > 0).then_some(file)
     }
 
-    /// Imports a player's file and returns how many bytes of it were kept. Refused: [`Refusal::FileLength`].
+    /// Imports a player's file and returns how many bytes of it were kept. A footer of 16 bytes is not kept; a caller that wants
+    /// it in later files appends it to them. Refused: [`Refusal::FileLength`].
     pub fn import_save(&mut self, file: &[u8]) -> Result<usize, Refusal> {
         let (memory, length) = (self.memory.as_mut_ptr(), self.memory.len());
         let kept = value(|kept| unsafe {
@@ -93,10 +105,15 @@ impl Cartridge {
         sound(accepted(unsafe { raw::gbasave_load_save(&mut self.record, memory, length, file.as_ptr(), file.len()) }));
     }
 
-    /// Returns the changed flag and clears it: whether a write has stored anything since the last call. Byte writes to an
-    /// EEPROM kind, loads and imports do not set the flag.
+    /// Returns the changed flag and clears it: whether a write has stored anything, or a state with a file was resumed, since
+    /// the last call. If so, write out the file. Byte writes to an EEPROM kind, loads and imports do not set the flag.
     pub fn take_save_dirty(&mut self) -> bool {
         sound(value(|flag| unsafe { raw::gbasave_take_save_dirty(&mut self.record, flag) })) == 1
+    }
+
+    /// Sets the changed flag.
+    pub(crate) fn set_save_dirty(&mut self) {
+        self.record[RECORD_FLAG] = 1;
     }
 
     /// Returns the chip record.

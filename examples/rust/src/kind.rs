@@ -6,11 +6,17 @@ use crate::{answer::value, raw};
 #[derive(Clone, Copy, Debug, PartialEq, Eq, Hash)]
 #[repr(u32)]
 pub enum Kind {
+    /// No backup chip.
     None,
+    /// SRAM of 32 KiB.
     Sram,
+    /// Flash of 64 KiB.
     Flash64,
+    /// Flash of 128 KiB, in two banks.
     Flash128,
+    /// A serial EEPROM of 512 bytes, or of 8 KiB once a game or a file shows it.
     Eeprom512,
+    /// A serial EEPROM of 8 KiB.
     Eeprom8k,
 }
 
@@ -18,6 +24,7 @@ impl Kind {
     /// All kinds, in the order of their numbers.
     pub const ALL: [Self; 6] = [Self::None, Self::Sram, Self::Flash64, Self::Flash128, Self::Eeprom512, Self::Eeprom8k];
 
+    /// Returns the kind's number in `gbasave.h`.
     pub fn number(self) -> u32 {
         self as u32
     }

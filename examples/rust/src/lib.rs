@@ -14,10 +14,20 @@
 //!
 //! cart.save_write(0x0E00_0010, 0x5A);
 //! let state = cart.state();
-//! let resumed = Cartridge::resume(&image, &state)?;
+//!
+//! // Later, perhaps in another process. An open cartridge of the same image is resumed in the same way.
+//! let mut resumed = Cartridge::open(&image)?;
+//! resumed.resume(&state)?;
 //! assert_eq!(resumed.save_read(0x0E00_0010), 0x5A);
-//! # Ok::<(), gbasave::Refusal>(())
+//! if resumed.take_save_dirty() {
+//!     let file = resumed.save_data();
+//!     // Write out the file.
+//! #   assert_eq!(file.unwrap()[0x10], 0x5A);
+//! }
+//! # Ok::<(), Box<dyn std::error::Error>>(())
 //! ```
+
+#![deny(missing_docs)]
 
 mod answer;
 mod cartridge;
@@ -26,9 +36,11 @@ mod kind;
 mod raw;
 mod refusal;
 mod state;
+mod version;
 
 pub use cartridge::Cartridge;
 pub use image::{detect_save_type, header_checksum, read, read16, read32, rom_crc, save_fit, save_size, title};
 pub use kind::Kind;
 pub use refusal::Refusal;
-pub use state::{ChipState, State};
+pub use state::{ChipState, Identity, NotResumed, State};
+pub use version::{version, VERSION};

@@ -1,19 +1,26 @@
-//! The calls of the archive. Each returns 0 or the number of a refusal. A buffer is a pointer and a length.
+//! The calls of the archive. Each but `gbasave_version` returns 0 or the number of a refusal. A buffer is a pointer and a length.
 //!
-//! `gbasave.h` says what the caller has to ensure: no pointer is NULL, buffers are as long as their lengths say, no two objects
-//! overlap, and nothing else writes to them during the call. Rust's borrows ensure all of this, also for empty slices.
+//! `gbasave.h` says what the caller has to ensure: no pointer is NULL, except of an empty buffer; buffers are as long as their
+//! lengths say; no two objects overlap; and nothing else writes to them during the call. Rust's borrows ensure all of this.
+
+use std::ops::Range;
 
 pub const RECORD_SIZE: usize = 24;
 pub const STATE_SIZE: usize = 18;
 pub const TITLE_SIZE: usize = 36;
 
+/// The length of the image in the record, low byte first.
+pub const RECORD_IMAGE_LENGTH: Range<usize> = 0..4;
 /// The offset of the kind in the record.
 pub const RECORD_KIND: usize = 4;
+/// The offset of the changed flag in the record.
+pub const RECORD_FLAG: usize = 5;
 
 pub type Record = [u8; RECORD_SIZE];
 
 #[link(name = "gbasave", kind = "static")]
 extern "C" {
+    pub fn gbasave_version() -> u32;
     pub fn gbasave_detect_save_type(image: *const u8, image_length: usize, kind: &mut u32) -> u32;
     pub fn gbasave_save_size(image: *const u8, image_length: usize, size: &mut u32) -> u32;
     pub fn gbasave_save_fit(image: *const u8, image_length: usize, file_length: usize, kept: &mut u32) -> u32;

@@ -6,19 +6,33 @@ use std::{error, fmt};
 #[derive(Clone, Copy, Debug, PartialEq, Eq, Hash)]
 #[repr(u32)]
 pub enum Refusal {
+    /// The image has not 192 to 33,554,432 bytes.
     ImageLength = 1,
+    /// The record is not valid.
     Record,
+    /// The memory does not have its kind's length.
     MemoryLength,
+    /// The kind has no EEPROM.
     NoEeprom,
+    /// 6 or more bits of an address are in.
     DmaTooLate,
+    /// The state does not have 18 bytes.
     StateLength,
+    /// The state's phase is not allowed.
     StatePhase,
+    /// The state's flash state is not allowed.
     StateFlash,
+    /// The state's bank, ID mode or large is neither 0 nor 1.
     StateSwitches,
+    /// The state's DMA width is not allowed.
     StateWidth,
+    /// The state's count, block or read place is out of range.
     StateRanges,
+    /// The state's count is not allowed in its phase.
     StateCount,
+    /// The destination is too short.
     DestinationLength,
+    /// No file of the kind has this length.
     FileLength,
 }
 
@@ -41,6 +55,7 @@ impl Refusal {
         Self::FileLength,
     ];
 
+    /// Returns the refusal's number in `gbasave.h`.
     pub fn number(self) -> u32 {
         self as u32
     }

@@ -1,31 +1,79 @@
 //! States: the data that is kept of a cartridge to resume it later.
 
+use std::{error, fmt};
+
 use crate::raw::STATE_SIZE;
-use crate::{Cartridge, Refusal};
+use crate::{Cartridge, Kind, Refusal};
 
 /// The chip record.
 pub type ChipState = [u8; STATE_SIZE];
 
-/// All that is needed, in addition to the image, to resume a cartridge after any call. It does not contain the changed flag.
+/// What tells one cartridge from another.
+#[derive(Clone, Copy, Debug, PartialEq, Eq, Hash)]
+pub struct Identity {
+    /// The kind of the backup chip.
+    pub kind: Kind,
+    /// The length of the image in bytes.
+    pub image_length: u32,
+    /// The CRC-32/IEEE of the image.
+    pub image_crc: u32,
+}
+
+/// All that is needed, in addition to the image, to resume a cartridge. It does not contain the changed flag.
 #[derive(Clone, Debug, PartialEq, Eq)]
 pub struct State {
+    /// The cartridge that the state belongs to.
+    pub cartridge: Identity,
     /// The save file, if the kind has one.
     pub file: Option<Vec<u8>>,
+    /// The chip record.
     pub chip: ChipState,
 }
 
+/// Why a state is not resumed.
+#[derive(Clone, Copy, Debug, PartialEq, Eq, Hash)]
+pub enum NotResumed {
+    /// The state belongs to another cartridge.
+    OtherCartridge,
+    /// The part refuses the chip record: [`Refusal::StatePhase`] to [`Refusal::StateCount`].
+    Refused(Refusal),
+}
+
 impl Cartridge {
+    /// Takes a state.
     pub fn state(&self) -> State {
-        State { file: self.save_data(), chip: self.chip_state() }
+        State { cartridge: self.identity(), file: self.save_data(), chip: self.chip_state() }
     }
 
-    /// Opens a fresh cartridge of the image and restores the state into it.
-    pub fn resume(image: &[u8], state: &State) -> Result<Self, Refusal> {
-        let mut cart = Self::open(image)?;
-        if let Some(file) = &state.file {
-            cart.load_save(file);
+    /// Resumes a state in this cartridge, whatever was played on it. If the state has a file, it then counts as changed: the
+    /// next [`take_save_dirty`](Self::take_save_dirty) returns true. An error leaves the cartridge as it was.
+    pub fn resume(&mut self, state: &State) -> Result<(), NotResumed> {
+        if state.cartridge != self.identity() {
+            return Err(NotResumed::OtherCartridge);
         }
-        cart.restore_chip_state(&state.chip)?;
-        Ok(cart)
+        // Before the load, so that a refused state changes nothing; after it, since the load may have made the chip large.
+        self.restore_chip_state(&state.chip)?;
+        if let Some(file) = &state.file {
+            self.load_save(file);
+            self.set_save_dirty();
+        }
+        Ok(self.restore_chip_state(&state.chip)?)
     }
 }
+
+impl From<Refusal> for NotResumed {
+    fn from(refusal: Refusal) -> Self {
+        Self::Refused(refusal)
+    }
+}
+
+impl fmt::Display for NotResumed {
+    fn fmt(&self, to: &mut fmt::Formatter) -> fmt::Result {
+        match self {
+            Self::OtherCartridge => to.write_str("the state belongs to another cartridge"),
+            Self::Refused(refusal) => refusal.fmt(to),
+        }
+    }
+}
+
+impl error::Error for NotResumed {}

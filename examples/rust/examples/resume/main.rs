@@ -1,8 +1,11 @@
-//! A small host. It opens images, saves on every chip, takes a state in the middle of an 81-bit write and resumes it in a fresh
-//! cartridge. A wrong answer ends the program.
+//! A small host. It opens images, saves on every chip, takes states in the middle of an 81-bit write and resumes them in a fresh
+//! cartridge and in the open one. A wrong answer ends the program.
 
 mod game;
 mod refusals;
+mod states;
+
+use std::error::Error;
 
 use game::{image, WRITE_BITS};
 use gbasave::{detect_save_type, header_checksum, read, rom_crc, title, Cartridge, Kind, Refusal, State};
@@ -44,13 +47,15 @@ fn sram_story() -> Result<(), Refusal> {
     println!("  {:24} {}", "stored from 10h on", hex(&cart.memory()[0x10..0x15]));
     assert!(cart.take_save_dirty() && !cart.take_save_dirty());
 
-    // Another cartridge imports the file, with 16 bytes after it that some programs add.
+    // Another cartridge imports the file, with a footer of 16 bytes that some programs add. The host keeps the footer.
     let mut file = cart.save_data().expect("SRAM has a file");
     file.extend([0xEE; 16]);
     let mut other = Cartridge::open(&image)?;
     let kept = other.import_save(&file)?;
     println!("  a file of {} bytes is imported elsewhere, {kept} kept", file.len());
     assert_eq!(other.memory(), cart.memory());
+    let written = [other.save_data().expect("SRAM has a file"), file[kept..].to_vec()].concat();
+    assert_eq!(written, file);
     Ok(())
 }
 
@@ -82,22 +87,42 @@ fn flash_story() -> Result<(), Refusal> {
 const EARLIER: u64 = 0x1122_3344_5566_7788;
 const DATA: u64 = 0x0123_4567_89AB_CDEF;
 
-/// Plays two writes. If there is a cut, the game goes on in a fresh cartridge after that many bits of the second write.
-fn played(image: &[u8], cut: Option<usize>, shown: bool) -> Result<State, Refusal> {
+/// A state taken after so many bits of a write, and where it is resumed.
+#[derive(Clone, Copy)]
+enum Cut {
+    Fresh(usize),
+    Open(usize),
+}
+
+impl Cut {
+    fn bits(self) -> usize {
+        match self {
+            Self::Fresh(bits) | Self::Open(bits) => bits,
+        }
+    }
+}
+
+/// Plays two writes. If there is a cut, it is in the second one.
+fn played(image: &[u8], cut: Option<Cut>, shown: bool) -> Result<State, Box<dyn Error>> {
     let mut cart = Cartridge::open(image)?;
     game::write_block(&mut cart, 3, EARLIER)?;
     cart.eeprom_begin_dma(WRITE_BITS as u32)?;
     let bits = game::write_bits(100, DATA);
-    let (before, after) = bits.split_at(cut.unwrap_or(0));
+    let (before, after) = bits.split_at(cut.map_or(0, Cut::bits));
     game::send(&mut cart, before)?;
     if let Some(cut) = cut {
         let state = cart.state();
         if shown {
             let length = state.file.as_ref().map_or(0, Vec::len);
-            println!("  after bit {cut}: a file of {length} bytes and the chip's state");
+            println!("  after bit {}: a file of {length} bytes and the chip's state", cut.bits());
             println!("  {:24} {}", "", hex(&state.chip));
         }
-        cart = Cartridge::resume(image, &state)?;
+        match cut {
+            Cut::Fresh(_) => cart = Cartridge::open(image)?,
+            // What is played on after the state was taken is forgotten.
+            Cut::Open(_) => game::write_block(&mut cart, 100, EARLIER)?,
+        }
+        cart.resume(&state)?;
     }
     game::send(&mut cart, after)?;
 
@@ -112,21 +137,27 @@ fn played(image: &[u8], cut: Option<usize>, shown: bool) -> Result<State, Refusa
     Ok(end)
 }
 
-fn eeprom_story() -> Result<(), Refusal> {
+fn eeprom_story() -> Result<(), Box<dyn Error>> {
     let image = image("EEPROM STORY", "EEPROM_V");
     describe(&image)?;
     let uncut = played(&image, None, true)?;
-    assert!(played(&image, Some(40), true)? == uncut);
-    for cut in 0..=WRITE_BITS {
-        assert!(played(&image, Some(cut), false)? == uncut, "cut after bit {cut}");
+    assert!(played(&image, Some(Cut::Fresh(40)), true)? == uncut);
+    for bits in 0..=WRITE_BITS {
+        for cut in [Cut::Fresh(bits), Cut::Open(bits)] {
+            assert!(played(&image, Some(cut), false)? == uncut, "cut after bit {bits}");
+        }
     }
-    println!("  cut after the DMA length and after each of the 81 bits: the same blocks, file and chip");
+    println!("  cut after the DMA length and after each of the 81 bits: the same blocks, file and chip,");
+    println!("  resumed in a fresh cartridge or in the open one");
     Ok(())
 }
 
-fn main() -> Result<(), Refusal> {
+fn main() -> Result<(), Box<dyn Error>> {
+    assert_eq!(gbasave::version(), gbasave::VERSION, "the archive belongs to another header");
+    println!("gbasave: the header and the archive have the same version");
     sram_story()?;
     flash_story()?;
     eeprom_story()?;
-    refusals::shown()
+    states::shown()?;
+    Ok(refusals::shown()?)
 }

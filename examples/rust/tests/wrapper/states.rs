@@ -1,5 +1,12 @@
 use crate::{game, images};
-use gbasave::{Cartridge, Refusal};
+use gbasave::{Cartridge, Kind, NotResumed, Refusal, State};
+
+/// A fresh cartridge of the image, into which the state is resumed.
+fn resumed(image: &[u8], state: &State) -> Cartridge {
+    let mut cart = Cartridge::open(image).unwrap();
+    cart.resume(state).unwrap();
+    cart
+}
 
 #[test]
 fn a_state_resumes_after_every_bit() {
@@ -7,24 +14,101 @@ fn a_state_resumes_after_every_bit() {
     let bits = [game::write_bits(100, 0x0123_4567_89AB_CDEF), game::read_bits(100)].concat();
     let mut uncut = Cartridge::open(&image).unwrap();
     uncut.eeprom_begin_dma(81).unwrap();
-    let mut resumed = uncut.clone();
+    let mut cut = uncut.clone();
     for bit in bits {
-        resumed = Cartridge::resume(&image, &resumed.state()).unwrap();
-        assert_eq!(uncut.eeprom_write(bit), resumed.eeprom_write(bit));
-        assert_eq!(uncut.state(), resumed.state());
+        cut = resumed(&image, &cut.state());
+        assert_eq!(uncut.eeprom_write(bit), cut.eeprom_write(bit));
+        assert_eq!(uncut.state(), cut.state());
     }
     for _ in 0..68 {
-        resumed = Cartridge::resume(&image, &resumed.state()).unwrap();
-        assert_eq!(uncut.eeprom_read(), resumed.eeprom_read());
-        assert_eq!(uncut.state(), resumed.state());
+        cut = resumed(&image, &cut.state());
+        assert_eq!(uncut.eeprom_read(), cut.eeprom_read());
+        assert_eq!(uncut.state(), cut.state());
+    }
+}
+
+/// Changes something on every kind that has a file.
+fn play(cart: &mut Cartridge) {
+    match cart.kind() {
+        Kind::None | Kind::Sram => cart.save_write(0x0E00_0010, 0x5A),
+        Kind::Flash64 | Kind::Flash128 => game::flash_program(cart, 0x0E00_0010, 0x5A),
+        Kind::Eeprom512 | Kind::Eeprom8k => game::write_block(cart, 100, 0x0123_4567_89AB_CDEF).unwrap(),
     }
 }
 
 #[test]
-fn kinds_without_a_file_resume_too() {
+fn a_resumed_file_counts_as_changed() {
+    for (kind, image) in images() {
+        let mut cart = Cartridge::open(&image).unwrap();
+        play(&mut cart);
+        let state = cart.state();
+        // In a fresh cartridge, in the open one whose file was written out, and in the open one whose file was not.
+        let mut written = cart.clone();
+        written.take_save_dirty();
+        for mut cart in [Cartridge::open(&image).unwrap(), written, cart] {
+            cart.resume(&state).unwrap();
+            assert_eq!(cart.take_save_dirty(), kind != Kind::None, "{kind:?}");
+            assert!(!cart.take_save_dirty());
+            assert_eq!(cart.save_data(), state.file);
+        }
+    }
+}
+
+#[test]
+fn an_open_cartridge_resumes_as_a_fresh_one_does() {
     for (_, image) in images() {
-        let cart = Cartridge::open(&image).unwrap();
-        assert_eq!(Cartridge::resume(&image, &cart.state()).unwrap(), cart);
+        let mut cart = Cartridge::open(&image).unwrap();
+        let fresh = cart.state();
+        play(&mut cart);
+        let played = cart.state();
+        for state in [&fresh, &played] {
+            for step in [&fresh, &played] {
+                // Whatever is played, and in the middle of a flash or serial command.
+                cart.resume(step).unwrap();
+                play(&mut cart);
+                cart.save_write(0x0E00_5555, 0xAA);
+                let _ = (cart.eeprom_begin_dma(81), cart.eeprom_write(1));
+                cart.resume(state).unwrap();
+                assert_eq!(cart, resumed(&image, state));
+            }
+        }
+    }
+}
+
+#[test]
+fn the_chip_record_is_the_states_whatever_the_file() {
+    let mut cart = Cartridge::open(&game::image("TEST", "EEPROM_V")).unwrap();
+    let state = State { file: Some(vec![0; 8192]), ..cart.state() };
+    cart.resume(&state).unwrap();
+    assert_eq!((cart.chip_state(), cart.memory()), (state.chip, &[0; 8192][..]));
+}
+
+#[test]
+fn the_state_of_another_cartridge_is_not_resumed() {
+    let mut longer = game::image("TEST", "SRAM_V");
+    longer.push(0);
+    let others = images().chain([(Kind::Sram, game::image("OTHER", "SRAM_V")), (Kind::Sram, longer)]);
+    let carts: Vec<Cartridge> = others.map(|(_, image)| Cartridge::open(&image).unwrap()).collect();
+    for (i, cart) in carts.iter().enumerate() {
+        for (j, other) in carts.iter().enumerate() {
+            let (mut cart, before) = (cart.clone(), cart.clone());
+            let expected = if i == j { Ok(()) } else { Err(NotResumed::OtherCartridge) };
+            assert_eq!(cart.resume(&other.state()), expected);
+            assert!(i == j || cart == before);
+        }
+    }
+}
+
+#[test]
+fn a_refused_state_changes_nothing() {
+    for (_, image) in images() {
+        let mut cart = Cartridge::open(&image).unwrap();
+        let mut state = cart.state();
+        state.chip[5] = 7;
+        play(&mut cart);
+        let before = cart.clone();
+        assert_eq!(cart.resume(&state), Err(NotResumed::Refused(Refusal::StatePhase)));
+        assert_eq!(cart, before);
     }
 }
 

@@ -1,0 +1,105 @@
+// Buffers of length 0 as C++ has them: an empty std::vector, whose pointer is NULL. It checks every answer; a wrong one ends
+// the program with status 1.
+#include <gbasave.h>
+
+#include <algorithm>
+#include <cstdio>
+#include <cstdlib>
+#include <string>
+#include <vector>
+
+using bytes = std::vector<std::uint8_t>;
+
+static void expect(const char *what, bool so)
+{
+    if (!so) {
+        std::fprintf(stderr, "empty: check failed: %s\n", what);
+        std::exit(1);
+    }
+}
+
+static bytes image_with(const std::string &marker)
+{
+    bytes image(1024);
+    std::copy(marker.begin(), marker.end(), image.begin() + 512);
+    return image;
+}
+
+static void no_image()
+{
+    bytes image, memory;
+    gbasave_record record;
+    std::uint32_t value = 7;
+    expect("opening no image", gbasave_from_bytes(&record, image.data(), 0, memory.data(), 0) == GBASAVE_REFUSED_IMAGE_LENGTH);
+    expect("kind of no image", gbasave_detect_save_type(image.data(), 0, &value) == GBASAVE_REFUSED_IMAGE_LENGTH);
+    expect("CRC of no image", gbasave_rom_crc(image.data(), 0, &value) == GBASAVE_REFUSED_IMAGE_LENGTH);
+    expect("header check of no image", gbasave_header_checksum(image.data(), 0, &value) == GBASAVE_REFUSED_IMAGE_LENGTH);
+    expect("byte of no image", gbasave_read(image.data(), 0, 0, &value) == GBASAVE_REFUSED_IMAGE_LENGTH);
+    expect("two bytes of no image", gbasave_read16(image.data(), 0, 0, &value) == GBASAVE_REFUSED_IMAGE_LENGTH);
+    expect("four bytes of no image", gbasave_read32(image.data(), 0, 0, &value) == GBASAVE_REFUSED_IMAGE_LENGTH);
+    expect("title of no image", gbasave_title(image.data(), 0, memory.data(), 0, &value) == GBASAVE_REFUSED_IMAGE_LENGTH);
+    expect("a refused call writes no value", value == 7);
+    expect("size for no image", gbasave_save_size(image.data(), 0, &value) == 0 && value == 0);
+    expect("no file fits no image", gbasave_save_fit(image.data(), 0, 32768, &value) == 0 && value == 0);
+    std::puts("an empty image: refused, 1; no memory, no file");
+}
+
+static void no_memory()
+{
+    const bytes image = image_with("");
+    bytes memory, file;
+    gbasave_record record;
+    std::uint32_t value = 7;
+    expect("opening", gbasave_from_bytes(&record, image.data(), image.size(), memory.data(), memory.size()) == 0);
+    expect("kind NONE", record.bytes[GBASAVE_RECORD_KIND] == GBASAVE_KIND_NONE);
+    expect("byte write", gbasave_save_write(&record, memory.data(), 0, 0x0E000000, 1) == 0);
+    expect("byte read", gbasave_save_read(&record, memory.data(), 0, 0x0E000000, &value) == 0 && value == 0xFF);
+    expect("bit out", gbasave_eeprom_read(&record, memory.data(), 0, &value) == 0 && value == 1);
+    expect("bit in", gbasave_eeprom_write(&record, memory.data(), 0, 1) == GBASAVE_REFUSED_NO_EEPROM);
+    expect("load", gbasave_load_save(&record, memory.data(), 0, file.data(), 0) == 0);
+    expect("export", gbasave_save_data(&record, memory.data(), 0, file.data(), 0, &value) == 0 && value == 0);
+    expect("import", gbasave_import_save(&record, memory.data(), 0, file.data(), 0, &value) == GBASAVE_REFUSED_FILE_LENGTH);
+    expect("restore", gbasave_restore_chip_state(&record, file.data(), 0) == GBASAVE_REFUSED_STATE_LENGTH);
+    expect("title", gbasave_title(image.data(), image.size(), file.data(), 0, &value) == 0 && value == 0);
+    std::puts("kind NONE with an empty memory: opens, plays, loads and exports no bytes");
+}
+
+// A kind with a memory: each other buffer is empty in turn, and then the memory.
+static void no_file(const std::string &marker)
+{
+    const bytes image = image_with(marker);
+    bytes nothing;
+    gbasave_record record;
+    std::uint32_t size, value = 7;
+    expect("size", gbasave_save_size(image.data(), image.size(), &size) == 0 && size > 0);
+    bytes memory(size, 0x5A);
+    expect("opening, empty memory",
+           gbasave_from_bytes(&record, image.data(), image.size(), nothing.data(), 0) == GBASAVE_REFUSED_MEMORY_LENGTH);
+    expect("opening", gbasave_from_bytes(&record, image.data(), image.size(), memory.data(), memory.size()) == 0);
+    memory.assign(size, 0x5A);
+    expect("import",
+           gbasave_import_save(&record, memory.data(), size, nothing.data(), 0, &value) == GBASAVE_REFUSED_FILE_LENGTH);
+    expect("export",
+           gbasave_save_data(&record, memory.data(), size, nothing.data(), 0, &value) == GBASAVE_REFUSED_DESTINATION_LENGTH);
+    expect("byte read", gbasave_save_read(&record, nothing.data(), 0, 0, &value) == GBASAVE_REFUSED_MEMORY_LENGTH);
+    expect("byte write", gbasave_save_write(&record, nothing.data(), 0, 0, 1) == GBASAVE_REFUSED_MEMORY_LENGTH);
+    expect("bit out", gbasave_eeprom_read(&record, nothing.data(), 0, &value) == GBASAVE_REFUSED_MEMORY_LENGTH);
+    expect("bit in", gbasave_eeprom_write(&record, nothing.data(), 0, 1) == GBASAVE_REFUSED_MEMORY_LENGTH);
+    expect("load, empty memory",
+           gbasave_load_save(&record, nothing.data(), 0, nothing.data(), 0) == GBASAVE_REFUSED_MEMORY_LENGTH);
+    expect("refused calls change nothing", value == 7 && memory == bytes(size, 0x5A));
+    expect("load", gbasave_load_save(&record, memory.data(), size, nothing.data(), 0) == 0);
+    expect("an empty file erases", memory == bytes(size, 0xFF));
+    std::printf("%s: an empty file erases the memory; an empty memory, destination or import is refused\n", marker.c_str());
+}
+
+int main()
+{
+    expect("an empty vector has NULL", bytes().data() == nullptr);
+    expect("the archive has the header's version", gbasave_version() == GBASAVE_VERSION_NUMBER);
+    no_image();
+    no_memory();
+    for (const char *marker : {"SRAM_V", "FLASH_V", "FLASH1M_V", "EEPROM_V"})
+        no_file(marker);
+    return 0;
+}
