@@ -3,6 +3,7 @@ pub mod Fields
 pub mod Replies
 pub mod Sound
 pub mod Recoverable
+pub mod Resume
 pub mod CutRuns
 pub mod Restore
 pub mod Flag

@@ -1,2 +1,3 @@
 pub mod NoneIsZero
 pub mod Refused
+pub mod CutBytes
