@@ -27,9 +27,10 @@ use Rattle.cart.proofs.CutRuns.{unflagged, either-quiet, step-same, recoverable
 use Rattle.c_record.specs.RecordBytes.{recordBytes}
 use Rattle.c_record.specs.AtExit.{AtExit, left, called, plain, valueAt, flagAt, stateAt, exportAt}
 use Rattle.c_record.proofs.RecordBytes.{record-and-bytes}
+use Rattle.cart_abi.specs.Host.{ExportedCall, saveRead, saveWrite, eepromBeginDma, eepromWrite, eepromRead, loadSave, saveData, chipState, takeSaveDirty, importSave}
+use Rattle.cart_abi.specs.Host.{Bytes, Found, Made, plainly, valued, filed, stated, flagged, make}
 use Rattle.cart_abi.specs.CutBytes as bytes
-use Rattle.cart_abi.specs.CutBytes.{ExportedCall, saveRead, saveWrite, eepromBeginDma, eepromWrite, eepromRead, loadSave, saveData, chipState, takeSaveDirty, importSave}
-use Rattle.cart_abi.specs.CutBytes.{Bytes, Found, Made, plainly, valued, filed, stated, flagged, make, Buffers, Turn, before, outcomeOf, foundOf, machineRun, callsOf, uncut, NoByteWrites, ExportedCutRuns}
+use Rattle.cart_abi.specs.CutBytes.{Buffers, Turn, before, outcomeOf, foundOf, machineRun, callsOf, uncut, NoByteWrites, ExportedCutRuns}
 
 abbrev bytesOf : State → Bytes
 bytesOf s = record { bytes = recordBytes (s .cart); memory = s .memory }

@@ -1,3 +1,2 @@
-pub mod NoneIsZero
 pub mod Refused
 pub mod CutBytes

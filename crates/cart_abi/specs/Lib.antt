@@ -1,2 +1,3 @@
+pub mod Host
 pub mod Claims
 pub mod CutBytes
