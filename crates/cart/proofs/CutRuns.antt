@@ -1,157 +1,22 @@
 -- Demand 3: a list of calls with its cuts shows what the list without them shows. Assumes nothing.
-use mathlib.Core.Path.{_≡_, refl, sym, ap, ap₂, _∙_}
+use mathlib.Core.Path.{_≡_, refl, sym, ap, _∙_}
 use mathlib.Core.Bool.{Bool, true, false, cond}
 use mathlib.Core.List.{List, [], _∷_, map, List·Memᴰ, List·Memᴰ·head, List·Memᴰ·tail}
 use mathlib.Core.Option.{Option, none, some}
-use Prim.Native.Nat.{ℕ, zero, suc, _≤_}
-use native.Mathlib.Omega.{arith}
+use Prim.Native.Nat.{ℕ, zero, suc}
 use lib.Dec.{eqb}
-use lib.ListN.{length, take, replicate, length-take, length-replicate}
-use lib.Pow.{pow-mono}
-use lib.Seq.{take-all}
-use borrow.Author.Tests.{le-leb}
 use Rattle.lists.specs.Questions.{asked}
-use Rattle.lists.proofs.Bools.{split}
-use Rattle.lists.proofs.Parts.{front-of}
-use Rattle.memory.specs.Memory.{erased, filled, stored}
-use Rattle.memory.proofs.Memory.{length-erased, filled-whole, filled-front}
 use Rattle.kind.specs.declared.SaveType.{SaveType}
 use Rattle.kind.specs.declared.SaveType.the-variants.{None, Sram, Flash64, Flash128, Eeprom512, Eeprom8k}
-use Rattle.kind.specs.Kind.{memorySize, usesEeprom, detectSaveType}
+use Rattle.kind.specs.Kind.{usesEeprom, detectSaveType}
 use Rattle.eeprom.specs.Eeprom.{bitIn}
-use Rattle.eeprom.proofs.Sound as eeprom
-use Rattle.cart.specs.declared.ChipRecord.{ChipRecord}
-use Rattle.cart.specs.ChipState.{chipBytes, chipOf, stateQuestions}
-use Rattle.cart.specs.Record.{State, Outcome, outcome, recordAllowed, fresh, freshCart, fromBytes}
-use Rattle.cart.specs.Calls.{Call, saveWrite, loadSave, saveData, chipState, saveRead, eepromBeginDma, eepromWrite, eepromRead, takeSaveDirty, stateWith, readSave, writeSave, load, eepromFile, fileOf, exported, holds, questions, accepted, step, restore}
-use Rattle.cart.specs.Cut.{fileIn, fileLeft, bytesLeft, reloaded, cut, cuts, Turn, before, run, uncut, CutRuns}
-use Rattle.cart.proofs.ChipState.{chip-allowed, own-questions, chip-back}
-use Rattle.cart.proofs.Sound.{Sound, record-allowed, memory-fits, step-accepted, sound-step, sound-fresh, opened, eeprom-size}
-use Rattle.cart.proofs.Restore.{restoring, restore-accepted}
+use Rattle.cart.specs.ChipState.{chipBytes}
+use Rattle.cart.specs.Record.{State, Outcome, outcome, recordAllowed, fromBytes}
+use Rattle.cart.specs.Calls.{Call, saveWrite, loadSave, saveData, chipState, saveRead, eepromBeginDma, eepromWrite, eepromRead, takeSaveDirty, readSave, writeSave, load, fileOf, exported, questions, accepted, step}
+use Rattle.cart.specs.Cut.{fileLeft, bytesLeft, cut, cuts, Turn, before, run, uncut, CutRuns}
+use Rattle.cart.proofs.Sound.{Sound, record-allowed, memory-fits, opened}
 use Rattle.cart.proofs.Recoverable.{Recoverable, NoByteWrite, recoverable-step, recoverable-fresh}
-
--- what a cut leaves: the file and the 18 bytes
-eeprom-file-le : (s : State) → length (eepromFile s) ≤ length (s .memory)
-eeprom-file-le s = simp length-take (omega arith)
-
-pub file-fits : (kind : SaveType) (s : State) (d : List ℕ) → length d ≡ length (s .memory) → holds (fileOf kind s) d ≡ true
-unfolding fileOf
-file-fits None s d e = refl
-file-fits Sram s d e = le-leb (length (s .memory)) (length d) (omega arith)
-file-fits Flash64 s d e = le-leb (length (s .memory)) (length d) (omega arith)
-file-fits Flash128 s d e = le-leb (length (s .memory)) (length d) (omega arith)
-file-fits Eeprom512 s d e = le-leb (length (eepromFile s)) (length d) (omega (arith, eeprom-file-le s))
-file-fits Eeprom8k s d e = le-leb (length (eepromFile s)) (length d) (omega (arith, eeprom-file-le s))
-
-file-in : (f : Option (List ℕ)) (d : List ℕ) (s : State) → fileIn (exported f d s .given) (exported f d s .destination) ≡ f
-file-in none d s = refl
-file-in (some f) d s = ap some (front-of f d)
-
--- an export into a destination as long as the memory, of a state that questions 2 and 3 let by
-pub export-accepted : (d : List ℕ) (s : State) → recordAllowed (s .cart) ≡ true → eqb (length (s .memory)) (memorySize (s .cart .kind)) ≡ true → length d ≡ length (s .memory)
-    → step saveData d s ≡ exported (fileOf (s .cart .kind) s) d s
-unfolding questions accepted
-export-accepted d s a b e = step-accepted saveData d s (a, (b, (file-fits (s .cart .kind) s d e, tt)))
-
-pub state-accepted : (s : State) → recordAllowed (s .cart) ≡ true → step chipState [] s ≡ outcome (chipBytes (s .cart .chip)) s []
-unfolding questions accepted
-state-accepted s a = step-accepted chipState [] s (a, tt)
-
-pub file-left : (s : State) → recordAllowed (s .cart) ≡ true → eqb (length (s .memory)) (memorySize (s .cart .kind)) ≡ true → fileLeft s ≡ fileOf (s .cart .kind) s
-unfolding fileLeft
-file-left s a b =
-    let d : List ℕ = replicate (length (s .memory)) 0 in
-    ap (λ (o : Outcome). fileIn (o .given) (o .destination)) (export-accepted d s a b (length-replicate (length (s .memory)) 0))
-    ∙ file-in (fileOf (s .cart .kind) s) d s
-
-pub bytes-left : (s : State) → recordAllowed (s .cart) ≡ true → bytesLeft s ≡ chipBytes (s .cart .chip)
-unfolding bytesLeft
-bytes-left s a = ap (λ (o : Outcome). o .given) (state-accepted s a)
-
--- the file gives the memory back
-abbrev memoryFrom : ℕ → Option (List ℕ) → List ℕ
-memoryFrom n none = erased n
-memoryFrom n (some f) = filled n f
-
-eeprom-back : (image : List ℕ) (s : State) → usesEeprom (s .cart .kind) ≡ true → Recoverable image s → filled (memorySize (s .cart .kind)) (eepromFile s) ≡ s .memory
-eeprom-back image s u r =
-    let n : ℕ = memorySize (s .cart .kind) in
-    let m = r .sound .memoryOk in
-    let e = eeprom-size (s .cart .kind) u in
-    split (λ (k : ℕ). filled n (take k (s .memory)) ≡ s .memory) (s .cart .chip .eeprom .large)
-    (λ l. ap (filled n) (take-all 8192 (s .memory) (omega arith)) ∙ filled-whole n (s .memory) m)
-    (λ l. filled-front n 512 (s .memory) m (omega arith) (r .tail u l))
-
-nothing-left : (m : List ℕ) → length m ≡ 0 → erased 0 ≡ m
-unfolding erased
-nothing-left [] e = refl
-nothing-left (x ∷ m) e = absurd (omega arith)
-
-memory-back : (image : List ℕ) (kind : SaveType) (s : State) → s .cart .kind ≡ kind → Recoverable image s → memoryFrom (memorySize kind) (fileOf kind s) ≡ s .memory
-unfolding fileOf
-memory-back image None s e r = nothing-left (s .memory) (r .sound .memoryOk ∙ ap memorySize e)
-memory-back image Sram s e r = filled-whole 32768 (s .memory) (r .sound .memoryOk ∙ ap memorySize e)
-memory-back image Flash64 s e r = filled-whole 65536 (s .memory) (r .sound .memoryOk ∙ ap memorySize e)
-memory-back image Flash128 s e r = filled-whole 131072 (s .memory) (r .sound .memoryOk ∙ ap memorySize e)
-memory-back image Eeprom512 s e r = ap (λ (k : SaveType). filled (memorySize k) (eepromFile s)) (sym e) ∙ eeprom-back image s (ap usesEeprom e) r
-memory-back image Eeprom8k s e r = ap (λ (k : SaveType). filled (memorySize k) (eepromFile s)) (sym e) ∙ eeprom-back image s (ap usesEeprom e) r
-
--- opening and loading: some chip record, and the memory that the file holds
-load-next : (f : List ℕ) (t : State) → Sound t → step (loadSave f) [] t .next ≡ load t f
-unfolding questions accepted
-load-next f t k = ap (λ (o : Outcome). o .next) (step-accepted (loadSave f) [] t (record-allowed t k, (memory-fits t k, tt)))
-
-record Back (image : List ℕ) (o : Option (List ℕ)) : Type 0 where
-  chip : ChipRecord
-  is : reloaded o (fresh image) ≡ stateWith (fresh image) false chip (memoryFrom (memorySize (detectSaveType image)) o)
-  sound : Sound (reloaded o (fresh image))
-
-back : (image : List ℕ) (o : Option (List ℕ)) → Sound (fresh image) → Back image o
-unfolding fresh freshCart load stored
-back image none k = record { chip = fresh image .cart .chip; is = refl; sound = k }
-back image (some f) k =
-    record {
-      chip = load (fresh image) f .cart .chip;
-      is =
-          load-next f (fresh image) k
-          ∙ ap (λ (n : ℕ). stateWith (fresh image) false (load (fresh image) f .cart .chip) (filled n f)) (length-erased (memorySize (detectSaveType image)));
-      sound = sound-step (loadSave f) [] (fresh image) k;
-    }
-
--- restoring
-restore-next : (b : List ℕ) (t : State) → Sound t → asked (stateQuestions b) ≡ 0 → restore b t .next ≡ restoring b t
-restore-next b t k e = ap (λ (o : Outcome). o .next) (restore-accepted b t (rw (record-allowed t k) e))
-
-chip-kept : (s : State) → Sound s → chipOf (chipBytes (s .cart .chip)) ≡ s .cart .chip
-chip-kept s k =
-    let e = s .cart .chip .eeprom in
-    let o = k .eepromOk .serialOk in
-    let n : e .count ≤ 64 = omega (arith, eeprom.count-64 e (k .eepromOk)) in
-    chip-back (s .cart .chip) (omega (arith, pow-mono n, o .accOk))
-
--- the state without its flag
-abbrev pub quiet : State → State
-quiet s = stateWith s false (s .cart .chip) (s .memory)
-
--- a cut loses the flag, and nothing else
-pub cut-quiet : (image memory : List ℕ) (s : State) → fromBytes image memory .refusal ≡ 0 → Recoverable image s → cut image memory s ≡ quiet s
-unfolding cut fresh freshCart
-cut-quiet image memory s h r =
-    let k = r .sound in
-    let b : List ℕ = chipBytes (s .cart .chip) in
-    let x = back image (fileLeft s) (sound-fresh image memory h) in
-    let m : memoryFrom (memorySize (detectSaveType image)) (fileLeft s) ≡ s .memory =
-    ap (memoryFrom (memorySize (detectSaveType image))) (file-left s (record-allowed s k) (memory-fits s k) ∙ ap (λ (i : SaveType). fileOf i s) (r .kindIs))
-    ∙ memory-back image (detectSaveType image) s (r .kindIs) r
-    in
-    ap₂ (λ (l : List ℕ) (t : State). restore l (reloaded (fileLeft s) t) .next) (bytes-left s (record-allowed s k)) (ap (λ (o : Outcome). o .next) (opened image memory h))
-    ∙ restore-next b (reloaded (fileLeft s) (fresh image)) (x .sound) (own-questions (s .cart .chip) (chip-allowed (s .cart .chip) (k .flashOk) (k .eepromOk)))
-    ∙ ap (restoring b) (x .is)
-    ∙ (λ i.
-    record {
-      cart = record { len = sym (r .lenIs) i; kind = sym (r .kindIs) i; dirty = false; chip = chip-kept s k i };
-      memory = m i;
-    })
+use Rattle.cart.proofs.Resume.{file-left, bytes-left, quiet, cut-quiet}
 
 -- what of an outcome does not show the flag
 abbrev pub unflagged : Outcome → Outcome
@@ -204,7 +69,7 @@ accepted-quiet saveData d s =
 accepted-quiet chipState d s = refl
 accepted-quiet takeSaveDirty d s = refl
 
-either-quiet : (b : Bool) (x y x′ y′ : Outcome) → unflagged x ≡ unflagged x′ → unflagged y ≡ unflagged y′ → unflagged (cond b x y) ≡ unflagged (cond b x′ y′)
+pub either-quiet : (b : Bool) (x y x′ y′ : Outcome) → unflagged x ≡ unflagged x′ → unflagged y ≡ unflagged y′ → unflagged (cond b x y) ≡ unflagged (cond b x′ y′)
 either-quiet true x y x′ y′ p q = p
 either-quiet false x y x′ y′ p q = q
 
@@ -239,7 +104,7 @@ cuts-kept image memory (suc n) s h r =
     (i .0 ∙ ap quiet q, i .1)
 
 -- what a cut leaves does not show the flag
-left-same : (s t : State) → Sound s → Sound t → quiet s ≡ quiet t → (fileLeft s ≡ fileLeft t) × (bytesLeft s ≡ bytesLeft t)
+pub left-same : (s t : State) → Sound s → Sound t → quiet s ≡ quiet t → (fileLeft s ≡ fileLeft t) × (bytesLeft s ≡ bytesLeft t)
 left-same s t k l e = (
   file-left s (record-allowed s k) (memory-fits s k) ∙ sym (file-quiet (s .cart .kind) s) ∙ ap (λ (z : State). fileOf (z .cart .kind) z) e ∙ file-quiet (t .cart .kind) t ∙ sym (file-left t (record-allowed t l) (memory-fits t l)),
   bytes-left s (record-allowed s k) ∙ ap (λ (z : State). chipBytes (z .cart .chip)) e ∙ sym (bytes-left t (record-allowed t l)),

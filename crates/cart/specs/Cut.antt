@@ -27,8 +27,12 @@ abbrev pub reloaded : Option (List ℕ) → State → State
 reloaded none s = s
 reloaded (some f) s = step (loadSave f) [] s .next
 
+-- what the cartridge t becomes by loading and restoring what a cut of s left
+abbrev pub resumed : State → State → State
+resumed s t = restore (bytesLeft s) (reloaded (fileLeft s) t) .next
+
 unfoldable pub cut : List ℕ → List ℕ → State → State
-cut image memory s = restore (bytesLeft s) (reloaded (fileLeft s) (fromBytes image memory .next)) .next
+cut image memory s = resumed s (fromBytes image memory .next)
 
 unfoldable pub cuts : List ℕ → List ℕ → ℕ → State → State
 cuts image memory zero s = s

@@ -6,3 +6,4 @@ pub mod Cut
 pub mod Claims
 pub mod Gbatek
 pub mod Cases
+pub mod Resume

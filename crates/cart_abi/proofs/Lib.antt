@@ -1,2 +1,2 @@
-pub mod NoneIsZero
 pub mod Refused
+pub mod CutBytes

@@ -10,17 +10,29 @@ use lib.ListN.{length, replicate}
 use lib.Pow.{areBytes}
 use borrow.Author.Tests.{ne-eqb}
 use Rattle.lists.specs.Questions.{Question, asked}
-use Rattle.lists.proofs.Bools.{split}
+use Rattle.lists.proofs.Bools.{split, cases}
+use Rattle.image.specs.declared.Answer.{Answer}
+use Rattle.title.specs.Title.{titleQuestions, headerTitle}
 use Rattle.file_sizes.specs.SaveFit.{keptPart}
+use Rattle.out_params.specs.Places.{placed, answeredAt, titleAt}
+use Rattle.cart.specs.declared.Cartridge.{Cartridge}
 use Rattle.cart.specs.ChipState.{chipOf}
 use Rattle.cart.specs.Record.{State, Outcome, guarded, refused, openQuestions, outcome, fromBytes}
-use Rattle.cart.specs.Calls.{Call, saveRead, saveWrite, eepromBeginDma, eepromWrite, eepromRead, loadSave, saveData, chipState, takeSaveDirty}
-use Rattle.cart.specs.Calls.{stateWith, load, fileOf, exported, questions, accepted, step, restoreQuestions, restore, importQuestions, importSave}
-use Rattle.c_record.specs.RecordBytes.{isRecord, stateOf}
-use Rattle.c_record.specs.AtExit.{AtExit, left, untouched, plain, called}
+use Rattle.cart.specs.Calls as machine
+use Rattle.cart.specs.Calls.{Call, stateWith, load, fileOf, exported, questions, accepted, step, restoreQuestions, restore, importQuestions}
+use Rattle.c_record.specs.RecordBytes.{cartOf, isRecord, stateOf}
+use Rattle.c_record.specs.AtExit.{AtExit, left, untouched, called, plain, valueAt, flagAt, stateAt, exportAt, askedAt}
 use Rattle.c_record.specs.Calls as calls
 use Rattle.c_record.proofs.RecordBytes.{record-and-bytes}
-use Rattle.cart_abi.specs.Claims.{MachineCall, ofNine, ofRestore, ofImport, RefusedLeaves}
+use Rattle.cart_abi.specs.Host.{ExportedCall, saveRead, saveWrite, eepromBeginDma, eepromWrite, eepromRead, loadSave, saveData, chipState, takeSaveDirty, importSave}
+use Rattle.cart_abi.specs.Host.{Bytes, found, made, plainly, valued, filed, stated, flagged, make}
+use Rattle.cart_abi.specs.Claims.{unchanged, RefusedLeaves}
+
+-- the machine's calls on a record, each with the destination that it is passed
+data MachineCall : (State → Outcome) → List ℕ → Type 0 where
+  ofNine : (c : Call) (d : List ℕ) → MachineCall (step c d) d
+  ofRestore : (b : List ℕ) → MachineCall (restore b) []
+  ofImport : (f : List ℕ) → MachineCall (machine.importSave f) []
 
 -- the machine's refusals leave state and destination, and answer nothing
 guarded-leaves : (qs : List Question) (d : List ℕ) (s : State) (o : Outcome) → o .refusal ≡ 0
@@ -35,25 +47,25 @@ exported-0 (some f) d s = refl
 
 accepted-0 : (c : Call) (d : List ℕ) (s : State) → accepted c d s .refusal ≡ 0
 unfolding accepted
-accepted-0 (saveRead a) d s = refl
-accepted-0 (saveWrite a v) d s = refl
-accepted-0 (eepromBeginDma words) d s = refl
-accepted-0 (eepromWrite v) d s = refl
-accepted-0 eepromRead d s = refl
-accepted-0 (loadSave f) d s = refl
-accepted-0 saveData d s = exported-0 (fileOf (s .cart .kind) s) d s
-accepted-0 chipState d s = refl
-accepted-0 takeSaveDirty d s = refl
+accepted-0 (machine.saveRead a) d s = refl
+accepted-0 (machine.saveWrite a v) d s = refl
+accepted-0 (machine.eepromBeginDma words) d s = refl
+accepted-0 (machine.eepromWrite v) d s = refl
+accepted-0 machine.eepromRead d s = refl
+accepted-0 (machine.loadSave f) d s = refl
+accepted-0 machine.saveData d s = exported-0 (fileOf (s .cart .kind) s) d s
+accepted-0 machine.chipState d s = refl
+accepted-0 machine.takeSaveDirty d s = refl
 
 machine-leaves : {call : State → Outcome} {d : List ℕ} → MachineCall call d → (s : State) → call s .refusal ≢ 0 → call s ≡ refused (call s .refusal) s d
-unfolding step restore importSave
+unfolding step restore machine.importSave
 machine-leaves (ofNine c d) s = guarded-leaves (questions c d s) d s (accepted c d s) (accepted-0 c d s)
 machine-leaves (ofRestore b) s = guarded-leaves (restoreQuestions b s) [] s (outcome [] (stateWith s (s .cart .dirty) (chipOf b) (s .memory)) []) refl
 machine-leaves (ofImport f) s =
     let part = keptPart (s .cart .kind) f in
     guarded-leaves (importQuestions f s) [] s (outcome (length part ∷ []) (load s part) []) refl
 
--- and so a record's bytes, and places
+-- and so a record's bytes
 bytes-leave : {call : State → Outcome} {d : List ℕ} → MachineCall call d → (r m : List ℕ) → areBytes r ≡ true
     → called call d r m .answer ≢ 0
     → called call d r m ≡ untouched (called call d r m .answer) d r m
@@ -65,17 +77,74 @@ bytes-leave {call} {d} q r m b =
     ap left (machine-leaves q s z) ∙ ap (λ (l : List ℕ). untouched (call s .refusal) d l m) (record-and-bytes .read r b h .1))
     (λ h z. refl)
 
+-- and a place
+kept : {A : Type 0} (n : ℕ) (value place : A) → n ≢ 0 → placed n value place ≡ place
+kept n value place h = rw (ne-eqb n 0 h)
+
+module _ {call : State → Outcome} {d : List ℕ} (q : MachineCall call d) (b : Bytes) (h : areBytes (b .bytes) ≡ true) (z : called call d (b .bytes) (b .memory) .answer ≢ 0) where
+  abbrev exit : AtExit
+  exit = called call d (b .bytes) (b .memory)
+
+  abbrev n : ℕ
+  n = exit .answer
+
+  abbrev leaves : exit ≡ untouched n d (b .bytes) (b .memory)
+  leaves = bytes-leave q (b .bytes) (b .memory) h z
+
+  plain-leaves : plainly (plain exit) ≡ made (found n 0 []) 0 (b .bytes) (b .memory)
+  plain-leaves = ap (λ (x : AtExit). plainly (plain x)) leaves
+
+  value-leaves : (p : ℕ) → valued (valueAt p exit) ≡ made (found n p []) 0 (b .bytes) (b .memory)
+  value-leaves p = ap (λ (x : AtExit). valued (valueAt p x)) leaves ∙ ap (λ (v : ℕ). made (found n v []) 0 (b .bytes) (b .memory)) (kept n 0 p z)
+
+  flag-leaves : (p : ℕ) → flagged (flagAt p exit) ≡ made (found n 0 []) p (b .bytes) (b .memory)
+  flag-leaves p = ap (λ (x : AtExit). flagged (flagAt p x)) leaves ∙ ap (λ (v : ℕ). made (found n 0 []) v (b .bytes) (b .memory)) (kept n 0 p z)
+
+  state-leaves : (p : List ℕ) → stated (stateAt p exit) ≡ made (found n 0 p) 0 (b .bytes) (b .memory)
+  state-leaves p = ap (λ (x : AtExit). stated (stateAt p x)) leaves ∙ ap (λ (v : List ℕ). made (found n 0 v) 0 (b .bytes) (b .memory)) (kept n [] p z)
+
+  file-leaves : (p : ℕ) → filed (exportAt p exit) ≡ made (found n p d) 0 (b .bytes) (b .memory)
+  file-leaves p = ap (λ (x : AtExit). filed (exportAt p x)) leaves ∙ ap (λ (v : ℕ). made (found n v d) 0 (b .bytes) (b .memory)) (kept n 0 p z)
+
+calls-leave : (c : ExportedCall) (b : Bytes) → areBytes (b .bytes) ≡ true → make c b .found .answer ≢ 0 → make c b ≡ unchanged c (make c b .found .answer) b
+unfolding make
+calls-leave (saveRead a p) b h z = value-leaves (ofNine (machine.saveRead a) []) b h z p
+calls-leave (saveWrite a v) b h z = plain-leaves (ofNine (machine.saveWrite a v) []) b h z
+calls-leave (eepromBeginDma words) b h z = plain-leaves (ofNine (machine.eepromBeginDma words) []) b h z
+calls-leave (eepromWrite v) b h z = plain-leaves (ofNine (machine.eepromWrite v) []) b h z
+calls-leave (eepromRead p) b h z = value-leaves (ofNine machine.eepromRead []) b h z p
+calls-leave (loadSave f) b h z = plain-leaves (ofNine (machine.loadSave f) []) b h z
+calls-leave (saveData d p) b h z = file-leaves (ofNine machine.saveData d) b h z p
+calls-leave (chipState p) b h z = state-leaves (ofNine machine.chipState []) b h z p
+calls-leave (takeSaveDirty p) b h z = flag-leaves (ofNine machine.takeSaveDirty []) b h z p
+calls-leave (importSave f p) b h z = value-leaves (ofImport f) b h z p
+
 opening : (image m : List ℕ) → calls.opens image m .0 ≢ 0 → calls.opens image m ≡ (calls.opens image m .0, replicate 24 0, m)
 unfolding fromBytes
 opening image m =
     split (λ (o : Outcome). o .refusal ≢ 0 → plain (left o) ≡ (o .refusal, replicate 24 0, m)) (eqb (asked (openQuestions image m)) 0) (λ t h. absurd (h refl))
     (λ t h. rw (record-and-bytes .nothing))
 
+-- the calls of a record alone, and of an image
+of-image : (a : Answer) (p : ℕ) → a .refusal ≢ 0 → answeredAt a p ≡ (a .refusal, p)
+of-image a p h = ap (λ (v : ℕ). (a .refusal, v)) (kept (a .refusal) (a .value) p h)
+
+of-record : (ask : Cartridge → Answer) (r : List ℕ) (p : ℕ) → askedAt ask r p .0 ≢ 0 → askedAt ask r p ≡ (askedAt ask r p .0, p)
+unfolding askedAt
+of-record ask r p =
+    split (λ (x : ℕ × ℕ). x .0 ≢ 0 → x ≡ (x .0, p)) (isRecord r) (λ t h. of-image (ask (cartOf r)) p h) (λ t h. refl)
+
+title : (image d : List ℕ) (p : ℕ) → headerTitle image d .0 .refusal ≢ 0 → titleAt (headerTitle image d) p ≡ (headerTitle image d .0 .refusal, d, p)
+unfolding headerTitle
+title image d p h = cases (eqb (asked (titleQuestions image d)) 0) (λ t. absurd ((rw t at h) refl)) (λ t. rw t (rw t))
+
 pub refused-leaves : RefusedLeaves
 refused-leaves =
     record {
-      calls = bytes-leave;
-      number = λ n v p h. rw (ne-eqb n 0 h);
-      bytes = λ n v p h. rw (ne-eqb n 0 h);
+      calls = calls-leave;
+      restore = λ b r m h z. ap plain (bytes-leave (ofRestore b) r m h z);
       opening = opening;
+      ofRecord = of-record;
+      ofImage = of-image;
+      title = title;
     }

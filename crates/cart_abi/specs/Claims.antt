@@ -1,40 +1,48 @@
--- What is claimed of refused calls: "A no returns the number, the record as given, all buffers unchanged"; and of
--- `save_fit`'s 0.
+-- What is claimed of refused calls: "A no returns the number, the record as given, all buffers unchanged".
 use mathlib.Core.Path.{_≡_}
 use mathlib.Core.Logic.{_≢_}
 use mathlib.Core.Bool.{true}
 use mathlib.Core.List.{List, []}
 use Prim.Native.Nat.{ℕ}
-use lib.Dec.{ltb}
 use lib.ListN.{replicate}
 use lib.Pow.{areBytes}
-use Rattle.file_sizes.specs.SaveFit.{taken, saveFitOf}
-use Rattle.out_params.specs.Places.{placed, keptLength}
-use Rattle.cart.specs.Record.{State, Outcome}
-use Rattle.cart.specs.Calls.{Call, restore, importSave, step}
+use Rattle.image.specs.declared.Answer.{Answer}
+use Rattle.title.specs.Title.{headerTitle}
+use Rattle.out_params.specs.Places.{answeredAt, titleAt}
+use Rattle.cart.specs.declared.Cartridge.{Cartridge}
 use Rattle.c_record.specs.RecordBytes.{recordSize}
-use Rattle.c_record.specs.AtExit.{untouched, called}
-use Rattle.c_record.specs.Calls.{opens}
+use Rattle.c_record.specs.AtExit.{askedAt}
+use Rattle.c_record.specs.Calls.{opens, restores}
+use Rattle.cart_abi.specs.Host.{ExportedCall, saveRead, saveWrite, eepromBeginDma, eepromWrite, eepromRead}
+use Rattle.cart_abi.specs.Host.{loadSave, saveData, chipState, takeSaveDirty, importSave}
+use Rattle.cart_abi.specs.Host.{Bytes, Made, found, made, make}
 
--- the machine's calls on a record, each with the destination that it is passed
-pub data MachineCall : (State → Outcome) → List ℕ → Type 0 where
-  ofNine : (c : Call) (d : List ℕ) → MachineCall (step c d) d
-  ofRestore : (b : List ℕ) → MachineCall (restore b) []
-  ofImport : (f : List ℕ) → MachineCall (importSave f) []
+-- a call that returns n and leaves record, memory, destination, state and out-parameter as they were passed
+abbrev pub unchanged : ExportedCall → ℕ → Bytes → Made
+unchanged (saveRead a p) n b = made (found n p []) 0 (b .bytes) (b .memory)
+unchanged (saveWrite a v) n b = made (found n 0 []) 0 (b .bytes) (b .memory)
+unchanged (eepromBeginDma words) n b = made (found n 0 []) 0 (b .bytes) (b .memory)
+unchanged (eepromWrite v) n b = made (found n 0 []) 0 (b .bytes) (b .memory)
+unchanged (eepromRead p) n b = made (found n p []) 0 (b .bytes) (b .memory)
+unchanged (loadSave f) n b = made (found n 0 []) 0 (b .bytes) (b .memory)
+unchanged (saveData d p) n b = made (found n p d) 0 (b .bytes) (b .memory)
+unchanged (chipState p) n b = made (found n 0 p) 0 (b .bytes) (b .memory)
+unchanged (takeSaveDirty p) n b = made (found n 0 []) p (b .bytes) (b .memory)
+unchanged (importSave f p) n b = made (found n p []) 0 (b .bytes) (b .memory)
+
+-- "opening, given none, returns one of kind None with all else 0"
+abbrev pub noRecord : List ℕ
+noRecord = replicate recordSize 0
 
 pub record RefusedLeaves : Type 0 where
-  -- record, memory and destination are as they were, and nothing is answered
-  pub calls : {call : State → Outcome} {d : List ℕ} → MachineCall call d → (r m : List ℕ) → areBytes r ≡ true
-      → called call d r m .answer ≢ 0
-      → called call d r m ≡ untouched (called call d r m .answer) d r m
-  -- so a place for a number, or for the state's bytes, keeps its value
-  pub number : (n value place : ℕ) → n ≢ 0 → placed n value place ≡ place
-  pub bytes : (n : ℕ) (value place : List ℕ) → n ≢ 0 → placed n value place ≡ place
-  -- "opening, given none, returns one of kind None with all else 0"
-  pub opening : (image m : List ℕ) → opens image m .0 ≢ 0
-      → opens image m ≡ (opens image m .0, replicate recordSize 0, m)
-
--- `save_fit` keeps more than 0 bytes of just those files that it takes
-pub record NoneIsZero : Type 0 where
-  pub told : (image : List ℕ) (file : ℕ)
-      → ltb 0 (keptLength (saveFitOf image file)) ≡ taken (saveFitOf image file)
+  pub calls : (c : ExportedCall) (b : Bytes) → areBytes (b .bytes) ≡ true → make c b .found .answer ≢ 0
+      → make c b ≡ unchanged c (make c b .found .answer) b
+  pub restore : (state r m : List ℕ) → areBytes r ≡ true → restores state r m .0 ≢ 0
+      → restores state r m ≡ (restores state r m .0, r, m)
+  pub opening : (image m : List ℕ) → opens image m .0 ≢ 0 → opens image m ≡ (opens image m .0, noRecord, m)
+  -- the calls that answer one number of a record alone, or of an image; and the title
+  pub ofRecord : (ask : Cartridge → Answer) (r : List ℕ) (p : ℕ) → askedAt ask r p .0 ≢ 0
+      → askedAt ask r p ≡ (askedAt ask r p .0, p)
+  pub ofImage : (a : Answer) (p : ℕ) → a .refusal ≢ 0 → answeredAt a p ≡ (a .refusal, p)
+  pub title : (image d : List ℕ) (p : ℕ) → headerTitle image d .0 .refusal ≢ 0
+      → titleAt (headerTitle image d) p ≡ (headerTitle image d .0 .refusal, d, p)

@@ -22,29 +22,9 @@ use Rattle.cart.specs.Record.{State, Outcome, recordAllowed}
 use Rattle.cart.specs.Calls.{saveData, chipState, fileOf, eepromFile, holds, exported, step}
 use Rattle.cart.specs.Cut.{fileLeft, bytesLeft, reloaded}
 use Rattle.cart.specs.Replies.{state, first, exportReplied}
-use Rattle.cart.proofs.CutRuns.{file-fits, export-accepted, state-accepted, file-left, bytes-left}
+use Rattle.cart.proofs.Resume.{file-fits, export-accepted, state-accepted, file-left, bytes-left, Long, file-long}
 use Rattle.state_calls.specs.StateAnswer.{orZeros}
 use Rattle.cut_call.specs.Loads.{loadedFrom}
-
--- a file has bytes
-Long : Option (List ℕ) → Type 0
-Long none = _≡_ {A = ℕ} 0 0
-Long (some f) = length f ≢ 0
-
-eeprom-long : (s : State) → length (s .memory) ≡ 8192 → length (eepromFile s) ≢ 0
-eeprom-long s e =
-    split (λ (k : ℕ). length (take k (s .memory)) ≢ 0) (s .cart .chip .eeprom .large)
-    (λ l z. omega (arith, length-take 8192 (s .memory)))
-    (λ l z. omega (arith, length-take 512 (s .memory)))
-
-file-long : (kind : SaveType) (s : State) → length (s .memory) ≡ memorySize kind → Long (fileOf kind s)
-unfolding fileOf Long
-file-long None s e = refl
-file-long Sram s e = λ z. omega arith
-file-long Flash64 s e = λ z. omega arith
-file-long Flash128 s e = λ z. omega arith
-file-long Eeprom512 s e = eeprom-long s e
-file-long Eeprom8k s e = eeprom-long s e
 
 -- what the code loads from: the front of the destination, as long as the export answers
 abbrev kept : Outcome → List ℕ
@@ -76,8 +56,8 @@ module _ (scratch d' : List ℕ) (cart : Cartridge) (m : List ℕ) (r : Reply) (
   y : eqb (length m) (memorySize (cart .kind)) ≡ true
   y = eq-eqb _ _ b
 
-  k : length d ≡ length m
-  k = length-take-le (length m) scratch n
+  k : length m ≤ length d
+  k = omega (arith, length-take-le (length m) scratch n)
 
   o : step saveData d s ≡ exported (fileOf (cart .kind) s) d s
   o = export-accepted d s a y k

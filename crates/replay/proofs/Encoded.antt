@@ -17,7 +17,8 @@ use Rattle.cart.specs.ChipState.{chipBytes}
 use Rattle.cart.specs.Cut.{fileLeft, bytesLeft, cuts, Turn, Compared, run, uncut}
 use Rattle.cart.proofs.Sound.{record-allowed, memory-fits}
 use Rattle.cart.proofs.Recoverable.{Recoverable, recoverable-step}
-use Rattle.cart.proofs.CutRuns.{cut-runs, export-accepted, state-accepted, file-left, bytes-left}
+use Rattle.cart.proofs.Resume.{export-accepted, state-accepted, file-left, bytes-left}
+use Rattle.cart.proofs.CutRuns.{cut-runs}
 use Rattle.call_list.specs.declared.Item.{Item}
 use Rattle.call_list.specs.declared.Item.the-variants.{SaveRead, SaveWrite, EepromRead, EepromWrite, BeginDma, TakeFlag, ChipState, LoadSave, SaveData, Cut, Bad}
 use Rattle.call_list.specs.Items.{Place, items, isWrite, byteWrites}
@@ -39,7 +40,7 @@ ending-is image s r =
     let a = record-allowed s (r .sound) in
     let b = memory-fits s (r .sound) in
     let f : fileAnswer (step saveData (replicate n 0) s) .bytes ≡ fileBytes n (fileLeft s) =
-    ap (λ (o : Outcome). fileAnswer o .bytes) (export-accepted (replicate n 0) s a b (length-replicate n 0)) ∙ file-bytes n (fileOf (s .cart .kind) s) s ∙ ap (fileBytes n) (sym (file-left s a b)) in
+    ap (λ (o : Outcome). fileAnswer o .bytes) (export-accepted (replicate n 0) s a b (simp length-replicate (omega arith))) ∙ file-bytes n (fileOf (s .cart .kind) s) s ∙ ap (fileBytes n) (sym (file-left s a b)) in
     let g : recordAnswer (step chipState [] s) .bytes ≡ 0 ∷ bytesLeft s = ap (λ (o : Outcome). recordAnswer o .bytes) (state-accepted s a) ∙ ap (λ (l : List ℕ). 0 ∷ l) (sym (bytes-left s a)) in
     λ i. f i ++ g i
 

@@ -13,7 +13,7 @@ use Rattle.cart.specs.declared.Cartridge.{Cartridge}
 use Rattle.cart.specs.Record.{State, fresh}
 use Rattle.cart.specs.Replies.{state}
 use Rattle.cart.proofs.Recoverable.{Recoverable}
-use Rattle.cart.proofs.CutRuns.{quiet}
+use Rattle.cart.proofs.Resume.{quiet}
 use Rattle.call_list.specs.declared.Item.{Item}
 use Rattle.call_list.specs.Items.{Place, itemIn, itemLength, itemRoom, endingRoom, items, isWrite, byteWrites, room}
 use Rattle.call_list.proofs.Places.{next-item, item-fits}

@@ -14,7 +14,8 @@ use Rattle.cart.specs.Record.{State, Outcome, openQuestions, fromBytes, fresh}
 use Rattle.cart.specs.Calls.{Call, saveRead, saveWrite, eepromBeginDma, eepromWrite, eepromRead, loadSave, saveData, chipState, takeSaveDirty, step}
 use Rattle.cart.specs.Cut.{cut}
 use Rattle.cart.proofs.Recoverable.{Recoverable, NoByteWrite, recoverable-step, recoverable-fresh}
-use Rattle.cart.proofs.CutRuns.{quiet, cut-quiet, unflagged, step-same, recoverable-quiet}
+use Rattle.cart.proofs.Resume.{quiet, cut-quiet}
+use Rattle.cart.proofs.CutRuns.{unflagged, step-same, recoverable-quiet}
 use Rattle.call_list.specs.declared.Item.{Item}
 use Rattle.call_list.specs.declared.Item.the-variants.{SaveRead, SaveWrite, EepromRead, EepromWrite, BeginDma, TakeFlag, ChipState, LoadSave, SaveData, Cut, Bad}
 use Rattle.call_list.specs.Items.{isWrite}

@@ -4,14 +4,14 @@ use mathlib.Core.Bool.{_||_}
 use Prim.Native.Nat.{ℕ}
 use lib.Dec.{ltb, leb}
 use lib.ListN.{length}
-use Rattle.out_params.specs.Places.{keptLength}
 use Rattle.lists.proofs.Bools.{either}
 use Rattle.kind.specs.declared.SaveType.{SaveType}
 use Rattle.kind.specs.declared.SaveType.the-variants.{None, Sram, Flash64, Flash128, Eeprom512, Eeprom8k}
 use Rattle.kind.specs.Kind.{detectSaveType}
 use Rattle.file_sizes.specs.declared.SaveFit.{SaveFit}
 use Rattle.file_sizes.specs.SaveFit.{chipSize, eepromFit, saveFit, saveFitOf, taken}
-use Rattle.cart_abi.specs.Claims.{NoneIsZero}
+use Rattle.out_params.specs.Places.{keptLength, fitAnswer}
+use Rattle.out_params.specs.Claims.{NoneIsZero}
 
 abbrev Told : SaveFit → Type 0
 Told fit = ltb 0 (keptLength fit) ≡ taken fit
@@ -26,5 +26,5 @@ fit-told Eeprom512 n = either Told (chipSize 512 n) refl (either Told (chipSize 
 fit-told Eeprom8k n = either Told (chipSize 512 n) refl (either Told (chipSize 8192 n) refl refl)
 
 pub none-is-zero : NoneIsZero
-unfolding saveFitOf
-none-is-zero = record { told = λ image n. either Told (leb 192 (length image)) (fit-told (detectSaveType image) n) refl }
+unfolding saveFitOf fitAnswer
+none-is-zero image n = either Told (leb 192 (length image)) (fit-told (detectSaveType image) n) refl

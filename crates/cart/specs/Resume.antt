@@ -1,0 +1,33 @@
+-- Resuming without opening again: the file and the 18 bytes of a cut, loaded and restored into a cartridge that is open.
+use mathlib.Core.Path.{_≡_}
+use mathlib.Core.Bool.{Bool, true, false}
+use mathlib.Core.List.{List, List·Memᴰ}
+use Prim.Native.Nat.{ℕ}
+use lib.ListN.{length}
+use Rattle.kind.specs.Kind.{memorySize, usesEeprom, detectSaveType}
+use Rattle.cart.specs.Record.{State, recordAllowed, fromBytes}
+use Rattle.cart.specs.Calls.{Call, saveWrite, stateWith}
+use Rattle.cart.specs.Cut.{resumed, cut}
+use Rattle.cart.specs.Gbatek.{calls}
+
+-- a cartridge of the image, whatever its chip, its memory and its flag hold
+pub record Open (image : List ℕ) (t : State) : Type 0 where
+  pub lenIs : t .cart .len ≡ length image
+  pub kindIs : t .cart .kind ≡ detectSaveType image
+  pub allowed : recordAllowed (t .cart) ≡ true
+  pub memoryOk : length (t .memory) ≡ memorySize (t .cart .kind)
+
+abbrev pub withFlag : Bool → State → State
+withFlag dirty s = stateWith s dirty (s .cart .chip) (s .memory)
+
+-- after a list as in demand 3, t becomes the state at which the cut was made, and what the cut with its opening gives;
+-- t's flag stays
+abbrev pub Resumes : Type 0
+Resumes =
+    (image memory : List ℕ) (list : List Call) (t : State)
+    → fromBytes image memory .refusal ≡ 0
+    → ((a v : ℕ) → List·Memᴰ (saveWrite a v) list → usesEeprom (detectSaveType image) ≡ false)
+    → Open image t
+    → let s = calls list (fromBytes image memory .next) .last in
+    (resumed s t ≡ withFlag (t .cart .dirty) s)
+    × (resumed s t ≡ withFlag (t .cart .dirty) (cut image memory s))

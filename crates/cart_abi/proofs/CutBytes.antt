@@ -1,0 +1,230 @@
+-- Demand 3 of the exported calls: what a host holds between them are the machine's states, as bytes. Assumes nothing.
+use mathlib.Core.Path.{_≡_, refl, sym, ap, ap₂, subst, _∙_}
+use mathlib.Core.Bool.{false}
+use mathlib.Core.List.{List, [], _∷_, List·Memᴰ·head, List·Memᴰ·tail}
+use mathlib.Core.Option.{Option, none, some}
+use Prim.Native.Nat.{ℕ, _≤_}
+use native.Mathlib.Omega.{arith}
+use lib.Dec.{eqb}
+use lib.ListN.{length}
+use borrow.Author.Tests.{eqb-true, ne-eqb}
+use Rattle.lists.specs.Questions.{asked}
+use Rattle.lists.proofs.Bools.{split}
+use Rattle.lists.proofs.Parts.{front-of}
+use Rattle.lists.proofs.Questions.{yes-all}
+use Rattle.kind.specs.Kind.{memorySize, usesEeprom, detectSaveType}
+use Rattle.file_sizes.specs.SaveFit.{keptPart}
+use Rattle.cart.specs.declared.Cartridge.{Cartridge}
+use Rattle.cart.specs.Record.{State, Outcome, outcome, recordAllowed, openQuestions, fromBytes}
+use Rattle.cart.specs.Calls as machine
+use Rattle.cart.specs.Calls.{Call, step, restore, load, fileOf, exported, importQuestions}
+use Rattle.cart.specs.Cut as uncutMachine
+use Rattle.cart.specs.Replies.{state}
+use Rattle.cart.proofs.Sound.{Sound, record-allowed, memory-fits, sound-step, sound-fresh, opened, opened-yes}
+use Rattle.cart.proofs.Recoverable.{Recoverable, NoByteWrite, recoverable-step, recoverable-fresh}
+use Rattle.cart.proofs.Resume.{Long, file-long, export-accepted, state-accepted, file-left, bytes-left, load-next, acc-lt, quiet, cut-quiet}
+use Rattle.cart.proofs.CutRuns.{unflagged, either-quiet, step-same, recoverable-quiet, left-same}
+use Rattle.c_record.specs.RecordBytes.{recordBytes}
+use Rattle.c_record.specs.AtExit.{AtExit, left, called, plain, valueAt, flagAt, stateAt, exportAt}
+use Rattle.c_record.proofs.RecordBytes.{record-and-bytes}
+use Rattle.cart_abi.specs.Host.{ExportedCall, saveRead, saveWrite, eepromBeginDma, eepromWrite, eepromRead, loadSave, saveData, chipState, takeSaveDirty, importSave}
+use Rattle.cart_abi.specs.Host.{Bytes, Found, Made, plainly, valued, filed, stated, flagged, make}
+use Rattle.cart_abi.specs.CutBytes as bytes
+use Rattle.cart_abi.specs.CutBytes.{Buffers, Turn, before, outcomeOf, foundOf, machineRun, callsOf, uncut, NoByteWrites, ExportedCutRuns}
+
+abbrev bytesOf : State → Bytes
+bytesOf s = record { bytes = recordBytes (s .cart); memory = s .memory }
+
+-- a call on the bytes of a state's record is the machine's
+at-record : (call : State → Outcome) (d : List ℕ) (s : State) → Sound s → called call d (recordBytes (s .cart)) (s .memory) ≡ left (call s)
+unfolding called
+at-record call d s k =
+    let w = record-and-bytes .written (s .cart) (record-allowed s k) (acc-lt s k) in
+    rw (w .0) (ap (λ (c : Cartridge). left (call (state c (s .memory)))) (w .1))
+
+-- what a host finds, and goes on with
+abbrev seen : Made → Found × Bytes
+seen m = (m .found, m .next)
+
+make-is : (c : ExportedCall) (s : State) → Sound s → seen (make c (bytesOf s)) ≡ (foundOf c (outcomeOf c s), bytesOf (outcomeOf c s .next))
+unfolding make
+make-is (saveRead a p) s k = ap (λ (x : AtExit). seen (valued (valueAt p x))) (at-record (step (machine.saveRead a) []) [] s k)
+make-is (saveWrite a v) s k = ap (λ (x : AtExit). seen (plainly (plain x))) (at-record (step (machine.saveWrite a v) []) [] s k)
+make-is (eepromBeginDma words) s k = ap (λ (x : AtExit). seen (plainly (plain x))) (at-record (step (machine.eepromBeginDma words) []) [] s k)
+make-is (eepromWrite v) s k = ap (λ (x : AtExit). seen (plainly (plain x))) (at-record (step (machine.eepromWrite v) []) [] s k)
+make-is (eepromRead p) s k = ap (λ (x : AtExit). seen (valued (valueAt p x))) (at-record (step machine.eepromRead []) [] s k)
+make-is (loadSave f) s k = ap (λ (x : AtExit). seen (plainly (plain x))) (at-record (step (machine.loadSave f) []) [] s k)
+make-is (saveData d p) s k = ap (λ (x : AtExit). seen (filed (exportAt p x))) (at-record (step machine.saveData d) d s k)
+make-is (chipState p) s k = ap (λ (x : AtExit). seen (stated (stateAt p x))) (at-record (step machine.chipState []) [] s k)
+make-is (takeSaveDirty p) s k = ap (λ (x : AtExit). seen (flagged (flagAt p x))) (at-record (step machine.takeSaveDirty []) [] s k)
+make-is (importSave f p) s k = ap (λ (x : AtExit). seen (valued (valueAt p x))) (at-record (machine.importSave f) [] s k)
+
+-- what is compared does not show the flag
+found-quiet : (c : ExportedCall) (o : Outcome) → foundOf c (unflagged o) ≡ foundOf c o
+found-quiet (saveRead a p) o = refl
+found-quiet (saveWrite a v) o = refl
+found-quiet (eepromBeginDma words) o = refl
+found-quiet (eepromWrite v) o = refl
+found-quiet (eepromRead p) o = refl
+found-quiet (loadSave f) o = refl
+found-quiet (saveData d p) o = refl
+found-quiet (chipState p) o = refl
+found-quiet (takeSaveDirty p) o = refl
+found-quiet (importSave f p) o = refl
+
+-- an import is a load, or it is refused
+recoverable-import : (image f : List ℕ) (s : State) → Recoverable image s → Recoverable image (machine.importSave f s .next)
+unfolding machine.importSave
+recoverable-import image f s r =
+    let part : List ℕ = keptPart (s .cart .kind) f in
+    let k = r .sound in
+    split (λ (o : Outcome). Recoverable image (o .next)) (eqb (asked (importQuestions f s)) 0)
+    (λ e. subst (Recoverable image) (load-next part s (record-allowed s k) (memory-fits s k)) (recoverable-step image (machine.loadSave part) [] s (λ a v p. cc) r))
+    (λ e. r)
+
+import-quiet : (f : List ℕ) (s : State) → unflagged (machine.importSave f (quiet s)) ≡ unflagged (machine.importSave f s)
+unfolding machine.importSave recordAllowed load
+import-quiet f s = either-quiet (eqb (asked (importQuestions f s)) 0) _ _ _ _ refl refl
+
+import-same : (f : List ℕ) (s t : State) → quiet s ≡ quiet t → unflagged (machine.importSave f s) ≡ unflagged (machine.importSave f t)
+import-same f s t e = sym (import-quiet f s) ∙ ap (λ (z : State). unflagged (machine.importSave f z)) e ∙ import-quiet f t
+
+-- the machine's call is one of the nine, or import
+data Way (image : List ℕ) : (State → Outcome) → Type 0 where
+  nine : (c : Call) (d : List ℕ) → NoByteWrite (detectSaveType image) c → Way image (step c d)
+  import : (f : List ℕ) → Way image (machine.importSave f)
+
+way : (image : List ℕ) (c : ExportedCall) → ((a v : ℕ) → saveWrite a v ≡ c → usesEeprom (detectSaveType image) ≡ false) → Way image (outcomeOf c)
+way image (saveRead a p) n = nine (machine.saveRead a) [] (λ a v e. cc)
+way image (saveWrite a v) n = nine (machine.saveWrite a v) [] (λ b w e. n a v refl)
+way image (eepromBeginDma words) n = nine (machine.eepromBeginDma words) [] (λ a v e. cc)
+way image (eepromWrite v) n = nine (machine.eepromWrite v) [] (λ a v e. cc)
+way image (eepromRead p) n = nine machine.eepromRead [] (λ a v e. cc)
+way image (loadSave f) n = nine (machine.loadSave f) [] (λ a v e. cc)
+way image (saveData d p) n = nine machine.saveData d (λ a v e. cc)
+way image (chipState p) n = nine machine.chipState [] (λ a v e. cc)
+way image (takeSaveDirty p) n = nine machine.takeSaveDirty [] (λ a v e. cc)
+way image (importSave f p) n = import f
+
+way-same : {image : List ℕ} {call : State → Outcome} → Way image call → (s t : State) → quiet s ≡ quiet t → unflagged (call s) ≡ unflagged (call t)
+way-same (nine c d n) s t e = step-same c d s t e
+way-same (import f) s t e = import-same f s t e
+
+way-stands : {image : List ℕ} {call : State → Outcome} → Way image call → (s : State) → Recoverable image s → Recoverable image (call s .next)
+way-stands {image} (nine c d n) s r = recoverable-step image c d s n r
+way-stands {image} (import f) s r = recoverable-import image f s r
+
+-- the calls of a cut
+reloaded-is : (o : Option (List ℕ)) (t : State) → Sound t → bytes.reloaded o (bytesOf t) ≡ bytesOf (uncutMachine.reloaded o t)
+reloaded-is none t k = refl
+reloaded-is (some f) t k = ap (λ (x : AtExit). plainly (plain x) .next) (at-record (step (machine.loadSave f) []) [] t k)
+
+sound-reloaded : (o : Option (List ℕ)) (t : State) → Sound t → Sound (uncutMachine.reloaded o t)
+sound-reloaded none t k = k
+sound-reloaded (some f) t k = sound-step (machine.loadSave f) [] t k
+
+restored-is : (b : List ℕ) (t : State) → Sound t → bytes.restored b (bytesOf t) ≡ bytesOf (restore b t .next)
+restored-is b t k = ap (λ (x : AtExit). plainly (plain x) .next) (at-record (restore b) [] t k)
+
+file-in : (f : Option (List ℕ)) (d : List ℕ) (p : ℕ) (s : State) → Long f
+    → let e = exportAt p (left (exported f d s)) in bytes.fileIn (e .4) (e .3) ≡ f
+unfolding Long
+file-in none d p s h = refl
+file-in (some f) d p s h = rw (ne-eqb (length f) 0 h) (ap some (front-of f d))
+
+module _ (image : List ℕ) (x : Buffers image) (s : State) (r : Recoverable image s) where
+  holds-file : length (s .memory) ≤ length (x .destination)
+  holds-file =
+      let y = yes-all (openQuestions image (x .memory)) refl (opened-yes image (x .memory) (x .reopens)) in
+      let m : length (x .memory) ≡ memorySize (detectSaveType image) = eqb-true _ _ (y .1 .0) in
+      let n : length (s .memory) ≡ memorySize (detectSaveType image) = r .sound .memoryOk ∙ ap memorySize (r .kindIs) in
+      omega (arith, x .holds)
+
+  file-is : bytes.fileLeft x (bytesOf s) ≡ uncutMachine.fileLeft s
+  unfolding bytes.fileLeft
+  file-is =
+      let d = x .destination in
+      let k = r .sound in
+      ap (λ (y : AtExit). let e = exportAt (x .fileLength) y in bytes.fileIn (e .4) (e .3))
+      (at-record (step machine.saveData d) d s k ∙ ap left (export-accepted d s (record-allowed s k) (memory-fits s k) holds-file))
+      ∙ file-in (fileOf (s .cart .kind) s) d (x .fileLength) s (file-long (s .cart .kind) s (k .memoryOk))
+      ∙ sym (file-left s (record-allowed s k) (memory-fits s k))
+
+  state-is : bytes.stateLeft x (bytesOf s) ≡ uncutMachine.bytesLeft s
+  unfolding bytes.stateLeft
+  state-is =
+      let k = r .sound in
+      ap (λ (y : AtExit). stateAt (x .state) y .3) (at-record (step machine.chipState []) [] s k ∙ ap left (state-accepted s (record-allowed s k)))
+      ∙ sym (bytes-left s (record-allowed s k))
+
+  cut-is : bytes.cut image x (bytesOf s) ≡ bytesOf (quiet s)
+  unfolding bytes.cut uncutMachine.cut
+  cut-is =
+      let m : List ℕ = x .memory in
+      let t : State = fromBytes image m .next in
+      let k : Sound t = rw (opened image m (x .reopens)) (sound-fresh image m (x .reopens)) in
+      let f : Option (List ℕ) = uncutMachine.fileLeft s in
+      let b : List ℕ = uncutMachine.bytesLeft s in
+      ap₂ (λ (l : List ℕ) (o : Option (List ℕ)). bytes.restored l (bytes.reloaded o (bytesOf t))) state-is file-is
+      ∙ ap (bytes.restored b) (reloaded-is f t k)
+      ∙ restored-is b (uncutMachine.reloaded f t) (sound-reloaded f t k)
+      ∙ ap bytesOf (cut-quiet image m s (x .reopens) r)
+
+-- cuts, one after the other: the bytes of a state that differs from s in the flag alone
+record After (image : List ℕ) (b : Bytes) (s : State) : Type 0 where
+  at : State
+  is : b ≡ bytesOf at
+  alike : quiet at ≡ quiet s
+  stands : Recoverable image at
+
+cuts-are : (image : List ℕ) (xs : List (Buffers image)) (s : State) → Recoverable image s → After image (bytes.cuts image xs (bytesOf s)) s
+unfolding bytes.cuts
+cuts-are image [] s r = record { at = s; is = refl; alike = refl; stands = r }
+cuts-are image (x ∷ xs) s r =
+    let i = cuts-are image xs (quiet s) (recoverable-quiet image s r) in
+    record { at = i .at; is = ap (bytes.cuts image xs) (cut-is image x s r) ∙ i .is; alike = i .alike; stands = i .stands }
+
+-- the host goes through the list with its cuts from s, the machine without from t
+runs-are : (image : List ℕ) (list : List (Turn image)) (end : Buffers image) (s t : State) → NoByteWrites image (callsOf list)
+    → quiet s ≡ quiet t → Recoverable image s → Recoverable image t
+    → bytes.run image list end (bytesOf s) ≡ machineRun (callsOf list) t
+unfolding bytes.run machineRun
+runs-are image [] end s t n q r u =
+    let l = left-same s t (r .sound) (u .sound) q in
+    λ i. record { calls = []; file = (file-is image end s r ∙ l .0) i; state = (state-is image end s r ∙ l .1) i }
+runs-are image (x ∷ list) end s t n q r u =
+    let c : ExportedCall = x .call in
+    let o : State → Outcome = outcomeOf c in
+    let w = way image c (λ a v p. n a v (List·Memᴰ·head p)) in
+    let e : unflagged (o s) ≡ unflagged (o t) = way-same w s t q in
+    let f : foundOf c (o s) ≡ foundOf c (o t) =
+    sym (found-quiet c (o s)) ∙ ap (foundOf c) e ∙ found-quiet c (o t)
+    in
+    let a = cuts-are image (x .cutsBehind) (o s .next) (way-stands w s r) in
+    let i : bytes.run image list end (bytes.cuts image (x .cutsBehind) (bytesOf (o s .next))) ≡ machineRun (callsOf list) (o t .next) =
+    ap (bytes.run image list end) (a .is)
+    ∙ runs-are image list end (a .at) (o t .next) (λ b v p. n b v (List·Memᴰ·tail p)) (a .alike ∙ ap (λ (z : Outcome). z .next) e) (a .stands) (way-stands w t u)
+    in
+    ap (λ (m : Found × Bytes). before (m .0) (bytes.run image list end (bytes.cuts image (x .cutsBehind) (m .1)))) (make-is c s (r .sound))
+    ∙ (λ j. before (f j) (i j))
+
+with-cuts : (image memory : List ℕ) (list : List (Turn image)) (end : Buffers image) → fromBytes image memory .refusal ≡ 0 → NoByteWrites image (callsOf list)
+    → bytes.run image list end (bytes.opened image memory) ≡ machineRun (callsOf list) (fromBytes image memory .next)
+with-cuts image memory list end h n =
+    let s : State = fromBytes image memory .next in
+    let r : Recoverable image s = rw (opened image memory h) (recoverable-fresh image memory h) in
+    runs-are image list end s s n refl r r
+
+calls-uncut : {image : List ℕ} (list : List (Turn image)) → callsOf (uncut list) ≡ callsOf list
+calls-uncut [] = refl
+calls-uncut (x ∷ list) = ap (λ (l : List ExportedCall). x .call ∷ l) (calls-uncut list)
+
+pub exported-cut-runs : ExportedCutRuns
+exported-cut-runs =
+    record {
+      machine = with-cuts;
+      uncut = λ image memory list end h n.
+          let e = calls-uncut list in
+          with-cuts image memory list end h n
+          ∙ sym (with-cuts image memory (uncut list) end h (subst (NoByteWrites image) (sym e) n) ∙ ap (λ (l : List ExportedCall). machineRun l (fromBytes image memory .next)) e);
+    }

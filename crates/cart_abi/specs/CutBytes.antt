@@ -1,0 +1,135 @@
+-- Cut runs of the exported calls. Document 01, "Cut runs", and demand 3, of a record's bytes and a memory.
+use mathlib.Core.Path.{_≡_}
+use mathlib.Core.Bool.{false, cond}
+use mathlib.Core.List.{List, [], _∷_, map, List·Memᴰ}
+use mathlib.Core.Option.{Option, none, some}
+use Prim.Native.Nat.{ℕ, _≤_}
+use lib.Dec.{eqb}
+use lib.ListN.{length, take}
+use Rattle.out_params.specs.Places.{placed}
+use Rattle.kind.specs.Kind.{usesEeprom, detectSaveType}
+use Rattle.cart.specs.Record.{State, Outcome, fromBytes}
+use Rattle.cart.specs.Calls as machine
+use Rattle.cart.specs.Calls.{step}
+use Rattle.cart.specs.Cut.{fileLeft as machineFile, bytesLeft as machineState}
+use Rattle.cart.specs.Replies.{first}
+use Rattle.c_record.specs.Calls.{opens, loads, exports, givesState, restores}
+use Rattle.cart_abi.specs.Host.{ExportedCall, saveRead, saveWrite, eepromBeginDma, eepromWrite, eepromRead}
+use Rattle.cart_abi.specs.Host.{loadSave, saveData, chipState, takeSaveDirty, importSave}
+use Rattle.cart_abi.specs.Host.{Bytes, Found, found, plainly, make}
+
+-- what a host passes to the calls of a cut, whatever it holds: a destination as long as the memory at least, places for
+-- the file's length and for the state, and a memory with which the image opens
+pub record Buffers (image : List ℕ) : Type 0 where
+  pub destination : List ℕ
+  pub fileLength : ℕ
+  pub state : List ℕ
+  pub memory : List ℕ
+  pub reopens : opens image memory .0 ≡ 0
+  pub holds : length memory ≤ length destination
+
+-- "it leaves the file that an accepted export gives there, where the kind has one": a length of 0 says that it has none
+abbrev pub fileIn : ℕ → List ℕ → Option (List ℕ)
+fileIn n d = cond (eqb n 0) none (some (take n d))
+
+unfoldable pub fileLeft : {image : List ℕ} → Buffers image → Bytes → Option (List ℕ)
+fileLeft x b = let e = exports (x .destination) (b .bytes) (b .memory) (x .fileLength) in fileIn (e .4) (e .3)
+
+-- "and the 18 bytes of `chip_state`"
+unfoldable pub stateLeft : {image : List ℕ} → Buffers image → Bytes → List ℕ
+stateLeft x b = givesState (b .bytes) (b .memory) (x .state) .3
+
+-- "Then: open the same image, load the file where there is one, restore."
+abbrev pub opened : List ℕ → List ℕ → Bytes
+opened image memory = plainly (opens image memory) .next
+
+abbrev pub reloaded : Option (List ℕ) → Bytes → Bytes
+reloaded none b = b
+reloaded (some f) b = plainly (loads f (b .bytes) (b .memory)) .next
+
+abbrev pub restored : List ℕ → Bytes → Bytes
+restored state b = plainly (restores state (b .bytes) (b .memory)) .next
+
+unfoldable pub cut : (image : List ℕ) → Buffers image → Bytes → Bytes
+cut image x b = restored (stateLeft x b) (reloaded (fileLeft x b) (opened image (x .memory)))
+
+unfoldable pub cuts : (image : List ℕ) → List (Buffers image) → Bytes → Bytes
+cuts image [] b = b
+cuts image (x ∷ xs) b = cuts image xs (cut image x b)
+
+-- a call of the list, and the cuts after it
+pub record Turn (image : List ℕ) : Type 0 where
+  pub call : ExportedCall
+  pub cutsBehind : List (Buffers image)
+
+-- "Compared are the answers of the list's own calls, with refusal numbers and the bytes of export destinations, and
+-- at the list's end the file, or that there is none, and the 18 bytes. Left out are the answer of `take_save_dirty`
+-- and the flag in the records."
+pub record Compared : Type 0 where
+  pub calls : List Found
+  pub file : Option (List ℕ)
+  pub state : List ℕ
+
+abbrev pub before : Found → Compared → Compared
+before f r = record { calls = f ∷ r .calls; file = r .file; state = r .state }
+
+-- `end` is passed at the list's end
+unfoldable pub run : (image : List ℕ) → List (Turn image) → Buffers image → Bytes → Compared
+run image [] end b = record { calls = []; file = fileLeft end b; state = stateLeft end b }
+run image (t ∷ list) end b =
+    let m = make (t .call) b in
+    before (m .found) (run image list end (cuts image (t .cutsBehind) (m .next)))
+
+-- document 01's machine, and what of its answers a host finds
+abbrev pub outcomeOf : ExportedCall → State → Outcome
+outcomeOf (saveRead a p) = step (machine.saveRead a) []
+outcomeOf (saveWrite a v) = step (machine.saveWrite a v) []
+outcomeOf (eepromBeginDma words) = step (machine.eepromBeginDma words) []
+outcomeOf (eepromWrite v) = step (machine.eepromWrite v) []
+outcomeOf (eepromRead p) = step machine.eepromRead []
+outcomeOf (loadSave f) = step (machine.loadSave f) []
+outcomeOf (saveData d p) = step machine.saveData d
+outcomeOf (chipState p) = step machine.chipState []
+outcomeOf (takeSaveDirty p) = step machine.takeSaveDirty []
+outcomeOf (importSave f p) = machine.importSave f
+
+abbrev pub numberAt : ℕ → Outcome → ℕ
+numberAt place o = placed (o .refusal) (first (o .given)) place
+
+abbrev pub foundOf : ExportedCall → Outcome → Found
+foundOf (saveRead a p) o = found (o .refusal) (numberAt p o) []
+foundOf (saveWrite a v) o = found (o .refusal) 0 []
+foundOf (eepromBeginDma words) o = found (o .refusal) 0 []
+foundOf (eepromWrite v) o = found (o .refusal) 0 []
+foundOf (eepromRead p) o = found (o .refusal) (numberAt p o) []
+foundOf (loadSave f) o = found (o .refusal) 0 []
+foundOf (saveData d p) o = found (o .refusal) (numberAt p o) (o .destination)
+foundOf (chipState p) o = found (o .refusal) 0 (placed (o .refusal) (o .given) p)
+foundOf (takeSaveDirty p) o = found (o .refusal) 0 []
+foundOf (importSave f p) o = found (o .refusal) (numberAt p o) []
+
+-- the machine run uncut through the same list
+unfoldable pub machineRun : List ExportedCall → State → Compared
+machineRun [] s = record { calls = []; file = machineFile s; state = machineState s }
+machineRun (c ∷ list) s = let o = outcomeOf c s in before (foundOf c o) (machineRun list (o .next))
+
+abbrev pub callsOf : {image : List ℕ} → List (Turn image) → List ExportedCall
+callsOf = map (λ t. t .call)
+
+abbrev pub uncut : {image : List ℕ} → List (Turn image) → List (Turn image)
+uncut = map (λ t. record { call = t .call; cutsBehind = [] })
+
+-- "no byte write to an EEPROM cartridge"
+abbrev pub NoByteWrites : List ℕ → List ExportedCall → Type 0
+NoByteWrites image list =
+    (address value : ℕ) → List·Memᴰ (saveWrite address value) list → usesEeprom (detectSaveType image) ≡ false
+
+-- demand 3 of the exported calls: from what an accepted opening leaves, a list with its cuts shows what document 01's
+-- machine shows uncut, and so what the list shows without its cuts
+pub record ExportedCutRuns : Type 0 where
+  pub machine : (image memory : List ℕ) (list : List (Turn image)) (end : Buffers image)
+      → opens image memory .0 ≡ 0 → NoByteWrites image (callsOf list)
+      → run image list end (opened image memory) ≡ machineRun (callsOf list) (fromBytes image memory .next)
+  pub uncut : (image memory : List ℕ) (list : List (Turn image)) (end : Buffers image)
+      → opens image memory .0 ≡ 0 → NoByteWrites image (callsOf list)
+      → run image list end (opened image memory) ≡ run image (uncut list) end (opened image memory)

@@ -1,0 +1,72 @@
+-- The exported calls as their host sees them: each is the definition that its contract cites
+-- (`c_record/specs/Calls.antt`).
+use mathlib.Core.List.{List, []}
+use Prim.Native.Nat.{ℕ}
+use Rattle.c_record.specs.Calls.{reads, writes, announces, takesBit, givesBit, loads, exports, imports}
+use Rattle.c_record.specs.Calls.{givesState, takesFlag}
+
+-- the nine calls, and import, each with all that it is passed beside record and memory: its arguments, its
+-- destination, and what its out-parameter holds
+pub data ExportedCall : Type 0 where
+  saveRead : (address value : ℕ) → ExportedCall
+  saveWrite : (address value : ℕ) → ExportedCall
+  eepromBeginDma : (words : ℕ) → ExportedCall
+  eepromWrite : (value : ℕ) → ExportedCall
+  eepromRead : (bit : ℕ) → ExportedCall
+  loadSave : (file : List ℕ) → ExportedCall
+  saveData : (destination : List ℕ) (length : ℕ) → ExportedCall
+  chipState : (state : List ℕ) → ExportedCall
+  takeSaveDirty : (flag : ℕ) → ExportedCall
+  importSave : (file : List ℕ) (kept : ℕ) → ExportedCall
+
+-- a record's bytes with the memory that is passed with them
+pub record Bytes : Type 0 where
+  pub bytes : List ℕ
+  pub memory : List ℕ
+
+-- what a host finds after a call: the number returned, and what is then in the out-parameter, and in the destination
+-- or the state; 0 and [] where the call has none
+pub record Found : Type 0 where
+  pub answer : ℕ
+  pub place : ℕ
+  pub destination : List ℕ
+
+abbrev pub found : ℕ → ℕ → List ℕ → Found
+found answer place d = record { answer = answer; place = place; destination = d }
+
+-- the out-parameter of `take_save_dirty` has a field of its own, which is left out of what is compared
+pub record Made : Type 0 where
+  pub found : Found
+  pub flag : ℕ
+  pub next : Bytes
+
+abbrev pub made : Found → ℕ → List ℕ → List ℕ → Made
+made f flag r m = record { found = f; flag = flag; next = record { bytes = r; memory = m } }
+
+-- from a contract: of a call without an out-parameter; with one; of export, `chip_state` and `take_save_dirty`
+abbrev pub plainly : ℕ × List ℕ × List ℕ → Made
+plainly x = made (found (x .0) 0 []) 0 (x .1) (x .2)
+
+abbrev pub valued : ℕ × List ℕ × List ℕ × ℕ → Made
+valued x = made (found (x .0) (x .3) []) 0 (x .1) (x .2)
+
+abbrev pub filed : ℕ × List ℕ × List ℕ × List ℕ × ℕ → Made
+filed x = made (found (x .0) (x .4) (x .3)) 0 (x .1) (x .2)
+
+abbrev pub stated : ℕ × List ℕ × List ℕ × List ℕ → Made
+stated x = made (found (x .0) 0 (x .3)) 0 (x .1) (x .2)
+
+abbrev pub flagged : ℕ × List ℕ × List ℕ × ℕ → Made
+flagged x = made (found (x .0) 0 []) (x .3) (x .1) (x .2)
+
+unfoldable pub make : ExportedCall → Bytes → Made
+make (saveRead a p) b = valued (reads a (b .bytes) (b .memory) p)
+make (saveWrite a v) b = plainly (writes a v (b .bytes) (b .memory))
+make (eepromBeginDma words) b = plainly (announces words (b .bytes) (b .memory))
+make (eepromWrite v) b = plainly (takesBit v (b .bytes) (b .memory))
+make (eepromRead p) b = valued (givesBit (b .bytes) (b .memory) p)
+make (loadSave f) b = plainly (loads f (b .bytes) (b .memory))
+make (saveData d p) b = filed (exports d (b .bytes) (b .memory) p)
+make (chipState p) b = stated (givesState (b .bytes) (b .memory) p)
+make (takeSaveDirty p) b = flagged (takesFlag (b .bytes) (b .memory) p)
+make (importSave f p) b = valued (imports f (b .bytes) (b .memory) p)
