@@ -11,7 +11,7 @@ use lib.ListN.{length, drop, getD}
 use lib.Pow.{pow-pos}
 use lib.Seq.{drop-cons, drop-length}
 use Rattle.crc.specs.Crc.{crcBits}
-use Rattle.crc.specs.Operator.{advanced, laneOperator, picked}
+use Rattle.crc.specs.Operator.{advanced, picked}
 use Rattle.crc.proofs.Polynomial.{bit-cases, low-lt, xor-assoc, bits-xor, bits-zero}
 
 bits-none : (n : ℕ) → crcBits n 0 ≡ 0
@@ -21,7 +21,8 @@ scaled : (n x b : ℕ) → b < 2 → crcBits n x * b ≡ crcBits n (x * b)
 scaled n x b h =
     let z : x * 0 ≡ 0 = omega arith in
     let o : x * 1 ≡ x = omega arith in
-    bit-cases (λ (u : ℕ). crcBits n x * u ≡ crcBits n (x * u)) b h (rw (z, bits-none n) (omega arith)) (rw o (omega arith))
+    bit-cases (λ (u : ℕ). crcBits n x * u ≡ crcBits n (x * u)) b h
+    (rw (z, bits-none n) (omega arith)) (rw o (omega arith))
 
 -- the lowest digit and the others are the number
 whole : (c p t : ℕ) → t ≡ p * 2 → c / 2 * t + p * (c % 2) ≡ c * p
@@ -44,14 +45,17 @@ picks n (suc k) i c h =
     let l : c / 2 < 2 ^ k = omega arith in
     let low = 2 ^ i * (c % 2) in
     let high = c / 2 * 2 ^ suc i in
+    let low-fits = digit-lt i (c % 2) (low-lt c) in
     rw (scaled n (2 ^ i) (c % 2) (low-lt c), picks n k (suc i) (c / 2) l)
     (sym (bits-xor n low high)
     ∙ ap (crcBits n)
-    (xor-comm low high ∙ xor-shifted (c / 2) (suc i) low (digit-lt i (c % 2) (low-lt c)) ∙ whole c (2 ^ i) (2 ^ suc i) (pow-suc 2 i)))
+    (xor-comm low high
+    ∙ xor-shifted (c / 2) (suc i) low low-fits
+    ∙ whole c (2 ^ i) (2 ^ suc i) (pow-suc 2 i)))
 
--- a register of 32 digits, a lane later
-pub lane-later : (op : List ℕ) (c : ℕ) → op ≡ laneOperator → c < 2 ^ 32 → picked op c ≡ crcBits 32768 c
-lane-later op c e h = let o : c * 2 ^ 0 ≡ c = omega arith in rw (e, picks 32768 32 0 c h, o)
+-- a register of 32 digits, n bits later
+pub later : (n c : ℕ) → c < 2 ^ 32 → picked (advanced n 32 0) c ≡ crcBits n c
+later n c h = let o : c * 2 ^ 0 ≡ c = omega arith in rw (picks n 32 0 c h, o)
 
 pub advanced-length : (n k i : ℕ) → length (advanced n k i) ≡ k
 unfolding advanced

@@ -1,5 +1,5 @@
--- An operator applied to its own numbers is that of twice the bits. So the operator of a lane is that of 32 bits, doubled
--- ten times: a computed test. Assumes nothing.
+-- An operator applied to its own numbers is that of twice the bits. So the operator of a lane is that of 32 bits,
+-- doubled ten times: a computed test. Assumes nothing.
 use mathlib.Core.Path.{_≡_, refl, sym, ap, _∙_}
 use mathlib.Core.Bool.{cond}
 use mathlib.Core.List.{List, [], _∷_}
@@ -12,7 +12,7 @@ use lib.Pow.{pow-pos}
 use Rattle.crc.specs.Crc.{crcBit, crcBits}
 use Rattle.crc.specs.Operator.{advanced, laneOperator, picked}
 use Rattle.crc.proofs.Polynomial.{bit-cases, low-lt}
-use Rattle.crc.proofs.Digits.{picks}
+use Rattle.crc.proofs.Digits.{later}
 
 -- bits, and then more bits
 pub bits-add : (n m c : ℕ) → crcBits (n + m) c ≡ crcBits m (crcBits n c)
@@ -45,10 +45,8 @@ applies : (n m k i : ℕ) → i + k ≤ 32 → applied (advanced n 32 0) (advanc
 unfolding advanced applied
 applies n m zero i h = refl
 applies n m (suc k) i h =
-    let o : crcBits m (2 ^ i) * 2 ^ 0 ≡ crcBits m (2 ^ i) = omega arith in
     let l : crcBits m (2 ^ i) < 2 ^ 32 = bits-lt m (2 ^ i) (pow-lt i 32 (omega arith)) in
-    let p : picked (advanced n 32 0) (crcBits m (2 ^ i)) ≡ crcBits (m + n) (2 ^ i)
-    = picks n 32 0 (crcBits m (2 ^ i)) l ∙ rw o (sym (bits-add m n (2 ^ i))) in
+    let p = later n (crcBits m (2 ^ i)) l ∙ sym (bits-add m n (2 ^ i)) in
     rw (p, applies n m k (suc i) (omega arith))
 
 unfoldable pub doubled : ℕ → List ℕ → List ℕ

@@ -25,4 +25,5 @@ unfolding romCrc
 of-image image parts e h = rw h (ap (λ (x : ℕ). accepted x) (ap crc32 (sym e) ∙ sym (of-bytes parts)))
 
 pub pieces : Pieces
-pieces = record { bytes = of-bytes; image = of-image }
+unfolding crcFeed fold
+pieces = record { bytes = of-bytes; image = of-image; empty = λ c. refl }

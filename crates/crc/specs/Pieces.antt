@@ -26,9 +26,11 @@ fedAll c (part ∷ parts) = fedAll (crcFeed c part) parts
 unfoldable pub crcOfParts : List (List ℕ) → ℕ
 crcOfParts parts = crcFinish (fedAll crcStart parts)
 
--- however bytes are cut into parts, empty ones among them, the end is the CRC of the whole
 pub record Pieces : Type 0 where
+  -- however bytes are cut into parts, empty ones among them, the end is the CRC of the whole
   pub bytes : (parts : List (List ℕ)) → crcOfParts parts ≡ crc32 (flatten parts)
-  -- of an image that question 1 accepts it is `rom_crc`
+  -- of an image that question 1 accepts it is what `rom_crc` answers
   pub image : (image : List ℕ) (parts : List (List ℕ)) → flatten parts ≡ image
       → imageLength (length image) ≡ true → romCrc image ≡ accepted (crcOfParts parts)
+  -- an empty part changes nothing
+  pub empty : (c : ℕ) → crcFeed c [] ≡ c

@@ -13,7 +13,8 @@ unfolding crc32 crcFeed crcFinish
 returns c =
     let s = c .before .before .before .before .args .s .now in
     c .crc-finish .ensures
-    ∙ ap (λ (x : ℕ). 0xffffffff - x) (c .before .crc-feed .ensures ∙ ap (λ (x : ℕ). fold crcByte x s) (c .before .before .crc-start .ensures))
+    ∙ ap (λ (x : ℕ). 0xffffffff - x)
+    (c .before .crc-feed .ensures ∙ ap (λ (x : ℕ). fold crcByte x s) (c .before .before .crc-start .ensures))
 
 pub crc32-spec : {M : Type 1} → statement M
 crc32-spec = tie.close (tie.spec (λ c κs. search needs) (λ c κs. search needs) (λ c κs. search needs) returns)

@@ -27,6 +27,30 @@ returns c =
       zero-add,
     )
 
+add-word-at-6 : tie.Need-add-word-at-6
+add-word-at-6 c =
+    let c6 = c .before .before .before .before .before .before in
+    let entry = c6 .before .before .before .before .before .before .before in
+    omega (arith, entry .pre)
+
+word-at-requires-7 : tie.Need-word-at-requires-7
+word-at-requires-7 c κs =
+    let c6 = c .before .before .before .before .before .before in
+    let entry = c6 .before .before .before .before .before .before .before in
+    omega (arith, entry .pre)
+
+add-word-at-7 : tie.Need-add-word-at-7
+add-word-at-7 c =
+    let c7 = c .before .before .before .before .before .before .before in
+    let entry = c7 .before .before .before .before .before .before .before .before in
+    omega (arith, entry .pre)
+
+word-at-requires-8 : tie.Need-word-at-requires-8
+word-at-requires-8 c κs =
+    let c7 = c .before .before .before .before .before .before .before in
+    let entry = c7 .before .before .before .before .before .before .before .before in
+    omega (arith, entry .pre)
+
 pub words-in-spec : {M : Type 1} → statement M
 words-in-spec =
     tie.close
@@ -42,8 +66,8 @@ words-in-spec =
     (λ c κs. omega arith)
     (λ c. omega arith)
     (λ c κs. omega arith)
-    (λ c. omega (arith, c .before .before .before .before .before .before .before .before .before .before .before .before .before .pre))
-    (λ c κs. omega (arith, c .before .before .before .before .before .before .before .before .before .before .before .before .before .pre))
-    (λ c. omega (arith, c .before .before .before .before .before .before .before .before .before .before .before .before .before .before .before .pre))
-    (λ c κs. omega (arith, c .before .before .before .before .before .before .before .before .before .before .before .before .before .before .before .pre))
+    add-word-at-6
+    word-at-requires-7
+    add-word-at-7
+    word-at-requires-8
     returns)
