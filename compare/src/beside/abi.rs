@@ -50,6 +50,9 @@ extern "C" {
         length: &mut u32,
     ) -> u32;
     pub fn gbasave_rom_crc(image: *const u8, image_len: usize, value: &mut u32) -> u32;
+    pub fn gbasave_crc_start(crc: &mut u32) -> u32;
+    pub fn gbasave_crc_feed(crc: &mut u32, part: *const u8, part_len: usize) -> u32;
+    pub fn gbasave_crc_finish(crc: &mut u32) -> u32;
     pub fn gbasave_detect_save_type(image: *const u8, image_len: usize, kind: &mut u32) -> u32;
     pub fn gbasave_save_fit(image: *const u8, image_len: usize, length: usize, kept: &mut u32) -> u32;
     pub fn gbasave_save_size(image: *const u8, image_len: usize, size: &mut u32) -> u32;

@@ -1,5 +1,7 @@
 //! What is asked of an image alone, and opening.
 
+mod crcs;
+
 use crate::part::Part;
 use crate::part_image as part;
 use crate::run::Run;
@@ -22,6 +24,7 @@ pub fn compare(run: &mut Run) {
     texts(run, random);
     titles(run, random);
     large_images(run, random);
+    crcs::compare(run, random);
     run.clear_line();
     println!("beside: images, {} calls, {:.1} s", run.calls - before.0, run.seconds() - before.1);
 }

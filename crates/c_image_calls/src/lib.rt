@@ -1,10 +1,14 @@
 // What is asked of an image alone, or of a kind's number. Values go to out-parameters.
 
+mod pieces;
 mod sizes;
 
 use image::image_length;
 use kind::kind_number;
 use out_params::tell;
+pub use pieces::crc_feed;
+pub use pieces::crc_finish;
+pub use pieces::crc_start;
 pub use sizes::memory_size;
 pub use sizes::save_fit;
 pub use sizes::save_size;

@@ -1,9 +1,10 @@
 // The calls on an image, or on a kind's number.
 ghost use mathlib.Core.Path.{_≡_};
-ghost use Rattle.out_params.specs.Places.{answeredAt, kindAnswer, titleAt, fitAnswer, memorySizeAnswer, sizeAnswer};
+ghost use Rattle.out_params.specs.Places.{told, answeredAt, kindAnswer, titleAt, fitAnswer, memorySizeAnswer, sizeAnswer};
 ghost use Rattle.image.specs.Image.{read as read·spec, headerChecksum};
 ghost use Rattle.title.specs.Title.{headerTitle};
 ghost use Rattle.crc.specs.Crc.{romCrc};
+ghost use Rattle.crc.specs.Pieces.{crcStart, crcFeed, crcFinish};
 
 #[no_mangle]
 pub extern "C" fn gbasave_read(image: &[u8], address: u32, value: &mut u32) -> u32
@@ -49,6 +50,29 @@ pub extern "C" fn gbasave_rom_crc(image: &[u8], value: &mut u32) -> u32
     ensures { λ x. ⌜ (x, now (value .exit)) ≡ answeredAt (romCrc (now (image .entry))) (now (value .entry)) ⌝ }
 {
     c_image_calls::rom_crc(image, value)
+}
+
+// The CRC of an image that comes in parts. These calls ask nothing.
+#[no_mangle]
+pub extern "C" fn gbasave_crc_start(crc: &mut u32) -> u32
+    ensures { λ x. ⌜ (x, now (crc .exit)) ≡ told 0 crcStart (now (crc .entry)) ⌝ }
+{
+    c_image_calls::crc_start(crc)
+}
+
+#[no_mangle]
+pub extern "C" fn gbasave_crc_feed(crc: &mut u32, part: &[u8]) -> u32
+    ensures { λ x. ⌜ (x, now (crc .exit))
+        ≡ told 0 (crcFeed (now (crc .entry)) (now (part .entry))) (now (crc .entry)) ⌝ }
+{
+    c_image_calls::crc_feed(crc, part)
+}
+
+#[no_mangle]
+pub extern "C" fn gbasave_crc_finish(crc: &mut u32) -> u32
+    ensures { λ x. ⌜ (x, now (crc .exit)) ≡ told 0 (crcFinish (now (crc .entry))) (now (crc .entry)) ⌝ }
+{
+    c_image_calls::crc_finish(crc)
 }
 
 // It asks question 1.

@@ -1,20 +1,20 @@
--- The register of a CRC: eight bits of a byte, and the table's entry. Assumes nothing.
+-- The register of a CRC: bits of a sum without carries, and eight bits by the table. Assumes nothing.
 use mathlib.Core.Path.{_≡_, refl, sym, ap, _∙_}
 use mathlib.Core.Bool.{true, cond}
 use mathlib.Core.List.{List, [], _∷_}
 use Prim.Native.Nat.{ℕ, zero, suc, _+_, _*_, _/_, _%_, _^_, _<_}
-use native.Mathlib.Nat.{mod-lt, div-eq-of-lt, pow-suc, add-zero, zero-add, add-suc, suc-add}
+use native.Mathlib.Nat.{mod-lt, pow-suc, add-zero, zero-add, add-suc, suc-add}
 use native.Mathlib.Omega.{arith}
 use lib.Arith.{bin-ind}
-use lib.Bits.{bitXor, differ, xor-step, xor-zero-r, xor-comm, xor-shr, xor-shifted}
+use lib.Bits.{bitXor, differ, xor-step, xor-comm, xor-shr, xor-shifted}
 use lib.Dec.{eqb}
 use lib.ListN.{getD}
 use borrow.Author.Tests.{eqb-true}
 use Rattle.lists.proofs.Bools.{and-left, and-right}
-use Rattle.crc.specs.Crc.{crcBit, crcBits, isTable, crcByte}
+use Rattle.crc.specs.Crc.{crcBit, crcBits, isTable}
 
 -- a binary digit
-bit-cases {ℓ} : (P : ℕ → Type ℓ) (x : ℕ) → x < 2 → P 0 → P 1 → P x
+pub bit-cases {ℓ} : (P : ℕ → Type ℓ) (x : ℕ) → x < 2 → P 0 → P 1 → P x
 bit-cases P zero h a b = a
 bit-cases P (suc zero) h a b = b
 bit-cases P (suc (suc x)) h a b = absurd (omega arith)
@@ -25,7 +25,7 @@ differ-assoc x y z hx hy hz =
     (bit-cases (λ (u : ℕ). differ (differ 1 u) z ≡ differ 1 (differ u z)) y hy refl
     (bit-cases (λ (u : ℕ). differ 0 u ≡ differ 1 (differ 1 u)) z hz refl refl))
 
-low-lt : (x : ℕ) → x % 2 < 2
+pub low-lt : (x : ℕ) → x % 2 < 2
 low-lt x = mod-lt x (omega arith)
 
 differ-lt : (x y : ℕ) → x < 2 → y < 2 → differ x y < 2
@@ -41,7 +41,7 @@ xor-low a b =
 xor-half : (a b : ℕ) → bitXor a b / 2 ≡ bitXor (a / 2) (b / 2)
 xor-half a b = xor-shr a b 1
 
-xor-assoc : (a b c : ℕ) → bitXor (bitXor a b) c ≡ bitXor a (bitXor b c)
+pub xor-assoc : (a b c : ℕ) → bitXor (bitXor a b) c ≡ bitXor a (bitXor b c)
 xor-assoc =
     bin-ind (λ (a : ℕ). (b c : ℕ) → bitXor (bitXor a b) c ≡ bitXor a (bitXor b c)) (λ b c. refl)
     (λ a ih b c.
@@ -78,13 +78,13 @@ crc-xor u v =
         (rw (xor-comm 0xedb88320 x) (xor-assoc x 0xedb88320 (bitXor 0xedb88320 y))
         ∙ ap (bitXor x) (sym (xor-assoc 0xedb88320 0xedb88320 y)))
 
-bits-xor : (n u v : ℕ) → crcBits n (bitXor u v) ≡ bitXor (crcBits n u) (crcBits n v)
+pub bits-xor : (n u v : ℕ) → crcBits n (bitXor u v) ≡ bitXor (crcBits n u) (crcBits n v)
 unfolding crcBits
 bits-xor zero u v = refl
 bits-xor (suc n) u v = rw (crc-xor u v) (bits-xor n (crcBit u) (crcBit v))
 
 -- zeros leave nothing behind
-bits-zero : (n q : ℕ) → crcBits n (q * 2 ^ n) ≡ q
+pub bits-zero : (n q : ℕ) → crcBits n (q * 2 ^ n) ≡ q
 unfolding crcBits
 bits-zero zero q = omega arith
 bits-zero (suc n) q =
@@ -107,10 +107,6 @@ entry (x ∷ table) i zero t h = rw add-zero (eqb-true x (crcBits 8 i) (and-left
 entry (x ∷ table) i (suc k) t h =
     rw (add-suc, ← suc-add) (entry table (suc i) k (and-right (eqb x (crcBits 8 i)) (isTable (suc i) table) t) (omega arith))
 
--- a byte by the table
-pub byte-in : (table : List ℕ) (c b : ℕ) → isTable 0 table ≡ true → b < 256 → bitXor (getD table (bitXor c b % 256) 0) (c / 256) ≡ crcByte c b
-unfolding crcByte
-byte-in table c b t h =
-    let k : bitXor c b % 256 < 256 = mod-lt (bitXor c b) {m = 256} (omega arith) in
-    let q : bitXor c b / 256 ≡ c / 256 = xor-shr c b 8 ∙ rw (div-eq-of-lt h) (xor-zero-r (c / 256)) in
-    sym (eight-bits (bitXor c b) ∙ rw (q, entry table 0 (bitXor c b % 256) t (omega arith), zero-add))
+-- eight bits by the table
+pub by-table : (table : List ℕ) (v : ℕ) → isTable 0 table ≡ true → bitXor (getD table (v % 256) 0) (v / 256) ≡ crcBits 8 v
+by-table table v t = sym (eight-bits v ∙ rw (entry table 0 (v % 256) t (omega arith), zero-add))

@@ -5,7 +5,7 @@ use super::{answered, is_wanted, long_row, row, used};
 use crate::part::Part;
 use crate::part_image;
 use compare::files::file;
-use compare::images::{image, of_kind, LARGEST};
+use compare::images::{image, of_kind, LARGEST, SMALLEST};
 use compare::kind::{self, MEMORY};
 use compare::original;
 use std::hint::black_box;
@@ -39,6 +39,19 @@ fn images() {
         let image = image(LARGEST, 7, 0, b"");
         long_row("CRC, 32 MiB", || used(original::crc32(&image)), || used(part_image::rom_crc(&image)));
     }
+    short_crc();
+}
+
+/// The shortest image, in batches that take less than a round.
+fn short_crc() {
+    const CALLS: u32 = 256;
+    let image = image(SMALLEST, 7, 0, b"");
+    row(
+        "CRC, 192 bytes",
+        CALLS,
+        || (0..CALLS).for_each(|_| used(original::crc32(black_box(&image)))),
+        || (0..CALLS).for_each(|_| used(answered(part_image::rom_crc(black_box(&image))))),
+    );
 }
 
 /// Cartridges of one side that take turns: in which pages a memory lies moves the time of a copy by some hundredths.
