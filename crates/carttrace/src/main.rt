@@ -5,6 +5,7 @@ use carttrace_lib::Session;
 use carttrace_lib::feed;
 use carttrace_lib::finish;
 use carttrace_lib::opened;
+use carttrace_lib::over;
 ghost use mathlib.Core.Path.{_≡_};
 ghost use Prim.Native.Nat.{_≤_};
 ghost use lib.ListN.{length};
@@ -41,11 +42,11 @@ fn piece(session: Session, memory: &mut [u8], out: &mut [u8]) -> Turn
     let written = io::write_all(1, &out[..len]);
     Turn {
         session: next,
-        more: written,
+        more: written && !over(next),
     }
 }
 
-// Reads to the end of the input. The loop needs a measure, so the turns count down from a number that no run reaches.
+// Reads to the end of the input, or of a bad line 1. The loop needs a measure, so the turns count down from a number that no run reaches.
 fn pieces(memory: &mut [u8], out: &mut [u8]) -> Session
     requires { ⌜ 131072 ≤ length (now memory) ⌝ }
     requires { ⌜ 65536 ≤ length (now out) ⌝ }

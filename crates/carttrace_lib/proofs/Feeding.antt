@@ -14,7 +14,7 @@ use Rattle.carttrace_lib.specs.Session.{Heard, heard, took, tookAll, tol
 use Rattle.carttrace_lib.proofs.Short.{took-short}
 
 -- what was printed before, and what comes after it
-abbrev pub behind : List ℕ → Heard → Heard
+abbrev behind : List ℕ → Heard → Heard
 behind front h = heard (front ++ h .text) (h .session) (h .memory)
 
 -- front: the text of the first i characters

@@ -1,4 +1,5 @@
 pub mod Answers
+pub mod Ends
 pub mod Examples
 pub mod Feeding
 pub mod Heard

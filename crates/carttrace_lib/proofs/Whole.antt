@@ -29,11 +29,10 @@ use Rattle.carttrace_lib.specs.declared.Stage.the-variants.{First, Playi
 use Rattle.carttrace_lib.specs.declared.Session.{Session}
 use Rattle.carttrace_lib.specs.Trace.{play, playAll, freshKind, playFrom, playLines, linesFrom, carttrace}
 use Rattle.carttrace_lib.specs.Session.{heard, sessionWith, opened, begun, continued, lineEnded, took, tookAll, isEmpty, finished}
-use Rattle.carttrace_lib.proofs.Feeding.{behind}
+use Rattle.carttrace_lib.specs.Claims.{Pieces, tookTwo, Whole, printedIn, joined, printedBy}
 
--- pieces: the input a ++ b is a, and then b from where a left off
-pub pieces : (a b : List ℕ) (s : Session) (m : List ℕ) → let h = tookAll a s m in tookAll (a ++ b) s m ≡ behind (h .text) (tookAll b (h .session) (h .memory))
-unfolding tookAll
+pub pieces : Pieces
+unfolding tookAll tookTwo
 pieces [] b s m = refl
 pieces (c ∷ a) b s m =
     let h = took s c m in
@@ -41,22 +40,18 @@ pieces (c ∷ a) b s m =
     let r = tookAll b (g .session) (g .memory) in
     rw (pieces a b (h .session) (h .memory)) (ap (λ (l : List ℕ). heard l (r .session) (r .memory)) (sym (append-assoc (h .text) (g .text) (r .text))))
 
--- what the input prints from a session on
-pub printedBy : List ℕ → Session → List ℕ → List ℕ
-printedBy input s m = let t = tookAll input s m in t .text ++ finished (t .session) (t .memory) .text
-
-printed-more : (c : ℕ) (input : List ℕ) (s : Session) (m : List ℕ) → let h = took s c m in printedBy (c ∷ input) s m ≡ h .text ++ printedBy input (h .session) (h .memory)
+pub printed-more : (c : ℕ) (input : List ℕ) (s : Session) (m : List ℕ) → let h = took s c m in printedBy (c ∷ input) s m ≡ h .text ++ printedBy input (h .session) (h .memory)
 unfolding tookAll printedBy
 printed-more c input s m =
     let h = took s c m in
     let r = tookAll input (h .session) (h .memory) in
     append-assoc (h .text) (r .text) (finished (r .session) (r .memory) .text)
 
-took-end : (c : ℕ) (s : Session) (m : List ℕ) → eqb c 0x0a ≡ true → took s c m ≡ lineEnded s m
+pub took-end : (c : ℕ) (s : Session) (m : List ℕ) → eqb c 0x0a ≡ true → took s c m ≡ lineEnded s m
 unfolding took
 took-end c s m e = rw e
 
-took-char : (c : ℕ) (s : Session) (m : List ℕ) → eqb c 0x0a ≡ false → took s c m ≡ heard [] (sessionWith (s .stage) (pushed (s .line) c) (s .cart)) m
+pub took-char : (c : ℕ) (s : Session) (m : List ℕ) → eqb c 0x0a ≡ false → took s c m ≡ heard [] (sessionWith (s .stage) (pushed (s .line) c) (s .cart)) m
 unfolding took
 took-char c s m e = rw e
 
@@ -78,16 +73,16 @@ line-full : (c : ℕ) (line : List ℕ) → isEmpty (pushedAll emptyLine (c ∷ 
 unfolding pushedAll
 line-full c line = stays-full (pushed emptyLine c) line (push-full emptyLine c)
 
-push-more : (l : Line) (line : List ℕ) (c : ℕ) → pushed (pushedAll l line) c ≡ pushedAll l (line ++ (c ∷ []))
+pub push-more : (l : Line) (line : List ℕ) (c : ℕ) → pushed (pushedAll l line) c ≡ pushedAll l (line ++ (c ∷ []))
 unfolding pushedAll
 push-more l [] c = refl
 push-more l (b ∷ line) c = push-more (pushed l b) line c
 
 -- after a bad line 1 nothing is printed
-over : (input : List ℕ) (l : Line) (cart : Cartridge) (m : List ℕ) → printedBy input (sessionWith Over l cart) m ≡ []
+pub over-silent : (input : List ℕ) (l : Line) (cart : Cartridge) (m : List ℕ) → printedBy input (sessionWith Over l cart) m ≡ []
 unfolding printedBy tookAll took lineEnded finished
-over [] l cart m = cases (isEmpty l) (λ e. rw e) (λ e. rw e)
-over (c ∷ input) l cart m = cases (eqb c 0x0a) (λ e. rw e (over input l cart m)) (λ e. rw e (over input (pushed l c) cart m))
+over-silent [] l cart m = cases (isEmpty l) (λ e. rw e) (λ e. rw e)
+over-silent (c ∷ input) l cart m = cases (eqb c 0x0a) (λ e. rw e (over-silent input l cart m)) (λ e. rw e (over-silent input (pushed l c) cart m))
 
 sound-play : (f : Frame) (s : State) → Sound s → Sound (play f s .next)
 unfolding play
@@ -133,7 +128,7 @@ playing (c ∷ input) line cart m k =
 first-end : (f : FirstLine) (input : List ℕ) (s : Session) (m : List ℕ) → let h = begun f s m in
     h .text ++ printedBy input (h .session) (h .memory) ≡ playFrom f (linesFrom [] input)
 unfolding begun freshKind imageLength pushedAll
-first-end NoKind input s m = rw (over input emptyLine (s .cart) m) (append-nil (lineOf 0xff []))
+first-end NoKind input s m = rw (over-silent input emptyLine (s .cart) m) (append-nil (lineOf 0xff []))
 first-end (Fresh kind) input s m =
     let n = memorySize kind in
     let cart = freshCart 192 kind in
@@ -163,7 +158,15 @@ starting (c ∷ input) line cart m =
     (ap (λ (f : FirstLine). begun f s m .text ++ printedBy input (begun f s m .session) (begun f s m .memory)) (first-said line) ∙ first-end (firstLine line) input s m))
     (λ e. rw (took-char c s m e, e) (ap (λ (q : Line). printedBy input (sessionWith First q cart) m) (push-more emptyLine line c) ∙ starting input (line ++ (c ∷ [])) cart m))
 
--- the whole program: for every input and whatever the buffer held
-pub whole : (input m : List ℕ) → printedBy input opened m ≡ carttrace input
+-- pieces print what their characters print
+in-pieces : (ps : List (List ℕ)) (s : Session) (m : List ℕ) → printedIn ps s m ≡ printedBy (joined ps) s m
+unfolding printedIn printedBy joined tookAll tookTwo
+in-pieces [] s m = refl
+in-pieces (p ∷ ps) s m =
+    let h = tookAll p s m in
+    let r = tookAll (joined ps) (h .session) (h .memory) in
+    rw (pieces p (joined ps) s m) (ap (λ (l : List ℕ). h .text ++ l) (in-pieces ps (h .session) (h .memory)) ∙ sym (append-assoc (h .text) (r .text) (finished (r .session) (r .memory) .text)))
+
+pub whole : Whole
 unfolding opened carttrace pushedAll
-whole input m = starting input [] (freshCart 0 _) m
+whole ps m = in-pieces ps opened m ∙ starting (joined ps) [] (freshCart 0 _) m

@@ -1,2 +1,3 @@
 pub mod Session
 pub mod Trace
+pub mod Claims

@@ -1,8 +1,8 @@
 -- `carttrace` character by character, however the input is cut into pieces: the state after each, and what is printed.
-use mathlib.Core.Bool.{Bool, cond, _&&_}
+use mathlib.Core.Bool.{Bool, true, false, cond, _&&_}
 use mathlib.Core.List.{List, [], _∷_, _++_}
 use Prim.Native.Nat.{ℕ}
-use lib.Dec.{eqb}
+use lib.Dec.{ltb, eqb}
 use lib.ListN.{length, take, drop}
 use Rattle.lists.specs.Lists.{into}
 use Rattle.memory.specs.Memory.{erased}
@@ -73,6 +73,13 @@ isEmpty l = l .good && eqb (l .count) 0
 
 unfoldable pub finished : Session → List ℕ → Heard
 finished s m = cond (isEmpty (s .line)) (heard [] s m) (lineEnded s m)
+
+-- "and ends if that is line 1": line 1 was bad, or has characters that no kind begins with
+abbrev pub noKind : Line → Bool
+noKind l = cond (l .good) (ltb 2 (l .count)) true
+
+unfoldable pub over : Session → Bool
+over s = byStage (s .stage) (noKind (s .line)) false true
 
 -- how the calls return this: the session and the text's length, the memory, the output with the text at its front
 abbrev pub toldWith : Session → ℕ → Told

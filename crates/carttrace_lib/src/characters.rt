@@ -23,6 +23,7 @@ ghost use Prim.Native.Nat.{_*_, _≤_};
 ghost use lib.ListN.{length};
 ghost use Rattle.carttrace_lib.specs.Session.{sessionWith, opened as opened·spec, begun, continued, lineEnded};
 ghost use Rattle.carttrace_lib.specs.Session.{took, tookAll, finished, isEmpty, toldWith, told};
+ghost use Rattle.carttrace_lib.specs.Session.{noKind, over as over·spec};
 ghost use Rattle.carttrace_lib.specs.Trace.{longestLine};
 
 fn session_with(stage: Stage, line: Line, cart: Cartridge) -> Session
@@ -164,4 +165,27 @@ fn is_empty(l: Line) -> bool
         return false;
     }
     l.count == 0
+}
+
+// A line so far that can become no kind.
+fn no_kind(l: Line) -> bool
+    ensures { λ r. ⌜ r ≡ noKind l ⌝ }
+{
+    if !l.good {
+        return true;
+    }
+    2 < l.count
+}
+
+// Whether line 1 is bad, so that nothing that follows changes what is printed. A caller then reads no further.
+pub fn over(session: Session) -> bool
+    ensures { λ r. ⌜ r ≡ over·spec session ⌝ }
+{
+    let stage = session.stage;
+    let line = session.line;
+    match stage {
+        Stage::First => no_kind(line),
+        Stage::Playing => false,
+        Stage::Over => true,
+    }
 }

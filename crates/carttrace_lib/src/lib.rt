@@ -7,6 +7,7 @@ use cart::Cartridge;
 pub use characters::feed;
 pub use characters::finish;
 pub use characters::opened;
+pub use characters::over;
 use frames::Line;
 pub use one_frame::play;
 

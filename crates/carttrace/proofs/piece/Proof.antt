@@ -5,9 +5,6 @@ use borrow.Author.Needs.{needs}
 use Rattle.carttrace.proofs.piece.Statement.{statement}
 use Rattle.carttrace.proofs.piece.Tie as tie
 
-slice-reshare-prefix-write-all : tie.Need-slice-reshare-prefix-write-all
-slice-reshare-prefix-write-all c = omega (arith, c .before .before .before .before .before .feed .ensures .1, c .before .before .out .given)
-
 slice-aggregate-write-all : tie.Need-slice-aggregate-write-all
 slice-aggregate-write-all c = sym (length-take-le _ _ (omega (arith, c .before .before .before .before .before .before .feed .ensures .1, c .before .before .before .out .given)))
 
@@ -23,9 +20,13 @@ piece-spec =
     (λ c. search needs)
     (λ c. search needs)
     (λ c κs. search needs)
-    slice-reshare-prefix-write-all
+    (λ c. search needs)
     slice-aggregate-write-all
     (λ c κs. search needs)
+    (λ c κs. search needs)
+    (λ c. search needs)
+    (λ c. search needs)
+    (λ c. search needs)
     (λ c. search needs)
     (λ c. search needs)
     (λ c. search needs))
