@@ -1,0 +1,1 @@
+// No code: specs/Claims.antt lists every theorem that docs/PROOFS.md names.
