@@ -54,5 +54,5 @@ usable-states =
       restored = restored;
       imported = imported;
       reached = λ s r. let k = reached-sound s r in record { valid = record-allowed s k; memoryOk = k .memoryOk };
-      acc0 = λ s r p c. acc-0 s (reached-sound s r) c;
+      acc0 = λ s r. acc-0 s (reached-sound s r);
     }

@@ -144,11 +144,10 @@ pub record Reached (s : State) : Type 0 where
   pub leads : calls list (fromBytes image memory .next) .last ≡ s
 
 -- where the claims above hold: each call, a restore and an import lead from a usable state to one; a reached state is
--- usable, and where its serial chip awaits a command, acc is 0
+-- usable, and where its serial chip has a count of 0, acc is 0
 pub record UsableStates : Type 0 where
   pub stays : (c : Call) (d : List ℕ) (s : State) → Usable s → Usable (step c d s .next)
   pub restored : (b : List ℕ) (s : State) → areBytes b ≡ true → Usable s → Usable (restore b s .next)
   pub imported : (f : List ℕ) (s : State) → Usable s → Usable (importSave f s .next)
   pub reached : (s : State) → Reached s → Usable s
-  pub acc0 : (s : State) → Reached s → s .cart .chip .eeprom .phase ≡ Opcode → s .cart .chip .eeprom .count ≡ 0
-      → s .cart .chip .eeprom .acc ≡ 0
+  pub acc0 : (s : State) → Reached s → s .cart .chip .eeprom .count ≡ 0 → s .cart .chip .eeprom .acc ≡ 0

@@ -8,7 +8,7 @@ use native.Mathlib.Nat.{add-zero, mod-mod, div-one, div-eq-of-lt}
 use native.Mathlib.Numerals.{add-one}
 use native.Mathlib.Omega.{arith}
 use lib.Dec.{ltb}
-use lib.ListN.{length, take, drop}
+use lib.ListN.{length, take, drop, length-append, length-map}
 use lib.Pow.{pow-mono}
 use borrow.Author.Tests.{eq-eqb, ne-eqb}
 use Rattle.lists.specs.Lists.{digits, withPart}
@@ -194,6 +194,24 @@ low-address : (w block : ℕ) → lowBits (setAddress w block 0) ≡ setAddress 
 unfolding setAddress
 low-address w block = simp (map-append (λ (v : ℕ). v % 2) (bits w block), low-bits w block)
 
+-- how many halfwords they are
+length-bits : (n x : ℕ) → length (bits n x) ≡ n
+unfolding digits
+length-bits zero x = refl
+length-bits (suc n) x = ap suc (length-bits n x)
+
+length-carried : (vs bs : List ℕ) → Carries vs bs → length vs ≡ length bs
+length-carried vs bs c = sym (length-map vs (λ (v : ℕ). v % 2)) ∙ ap length c
+
+length-write : (w block y z : ℕ) → length (writeBlock w block y z) ≡ w + 67
+unfolding writeBlock
+length-write w block y z =
+    simp (length-append (bits w block), length-append (bits 64 y), length-bits w block, length-bits 64 y) (omega arith)
+
+length-address : (w block z : ℕ) → length (setAddress w block z) ≡ w + 3
+unfolding setAddress
+length-address w block z = simp (length-append (bits w block), length-bits w block) (omega arith)
+
 pub serial-chip : SerialChipClaim
 serial-chip w e x i =
     let r : Eeprom = serial e Opcode 0 (e .block) (e .place) (e .acc) in
@@ -216,6 +234,8 @@ serial-chip w e x i =
       ends = λ block. drains e 67 0 block refl;
       announcesWrite = told-write x e;
       announcesRead = told-read x e;
+      writeLength = λ block y vs c. length-carried vs (writeBlock w block y (c .last)) (c .carries) ∙ length-write w block y (c .last);
+      addressLength = λ block vs c. length-carried vs (setAddress w block (c .last)) (c .carries) ∙ length-address w block (c .last);
       gbatekWrite = λ block y hb hy. record { blockOk = hb; wordOk = hy; last = 0; carries = low-write w block y };
       gbatekAddress = λ block hb. record { blockOk = hb; last = 0; carries = low-address w block };
     }

@@ -95,6 +95,8 @@ pub record Commands (w : ℕ) (e : Eeprom) : Type 0 where
   pub ends : (block : ℕ) → drained 68 (serial e Reading 0 block 0 0) ≡ serial e Opcode 0 block 0 0
   pub announcesWrite : wOf (beginDma (w + 67) e) ≡ w
   pub announcesRead : wOf (beginDma (w + 3) e) ≡ w
+  pub writeLength : (block word : ℕ) (vs : List ℕ) → Writing w block word vs → length vs ≡ w + 67
+  pub addressLength : (block : ℕ) (vs : List ℕ) → Addressing w block vs → length vs ≡ w + 3
   -- GBATEK's own halfwords, 0 and 1, with a last 0
   pub gbatekWrite : (block word : ℕ) → block < 2 ^ w → word < 2 ^ 64
       → Writing w block word (writeBlock w block word 0)

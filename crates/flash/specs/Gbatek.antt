@@ -17,8 +17,8 @@ pub record Write : Type 0 where
 abbrev pub write : ℕ → ℕ → Write
 write a v = record { address = a; value = v }
 
--- The addresses of a command's three bytes. "command addresses aren't looked at" (document 01), so the claims below
--- have any; GBATEK: "AAh to 0E005555h, 55h to 0E002AAAh, then the command byte to 0E005555h".
+-- The addresses of a command's three bytes. The claims below are for all of them: "command addresses aren't looked at"
+-- (document 01). GBATEK's own: "AAh to 0E005555h, 55h to 0E002AAAh, then the command byte to 0E005555h".
 pub record At : Type 0 where
   pub first : ℕ
   pub second : ℕ
