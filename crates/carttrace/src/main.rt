@@ -46,7 +46,8 @@ fn piece(session: Session, memory: &mut [u8], out: &mut [u8]) -> Turn
     }
 }
 
-// Reads to the end of the input, or of a bad line 1. The loop needs a measure, so the turns count down from a number that no run reaches.
+// Reads to the end of the input, or until line 1 is bad. The loop needs a measure, so the turns count down from a
+// number that no run reaches.
 fn pieces(memory: &mut [u8], out: &mut [u8]) -> Session
     requires { ⌜ 131072 ≤ length (now memory) ⌝ }
     requires { ⌜ 65536 ≤ length (now out) ⌝ }

@@ -5,20 +5,20 @@
 // an image above 16 MiB, for which there is no room here, so 05 is played as an Eeprom512 whose list begins with a load
 // of 8,192 erased bytes. The load makes the chip large; from there on the two answer the same.
 
-use cuttrace_lib::answers_room;
+use cuttrace_lib::large_room;
 use cuttrace_lib::output_room;
 use cuttrace_lib::room;
 use cuttrace_lib::run_trace;
-ghost use Prim.Native.Nat.{_<_};
+use cuttrace_lib::settled;
+use cuttrace_lib::trace_room;
+ghost use Prim.Native.Nat.{_≤_};
 ghost use lib.ListN.{length};
 
-fn run(text: &[u8])
-    requires { ⌜ length (now text) < 131072 ⌝ }
-{
-    let mut list = room();
+fn run(text: &[u8]) {
+    let mut list = large_room();
     let mut memory = room();
     let mut scratch = room();
-    let mut answers = answers_room();
+    let mut answers = large_room();
     let mut out = output_room();
     let n = run_trace(
         text,
@@ -31,12 +31,33 @@ fn run(text: &[u8])
     io::write_all(1, &out[..n]);
 }
 
-fn main() {
-    let mut text = room();
-    let len = io::read_full(0, &mut text);
-    if 131072 <= len {
-        io::write_all(2, b"cuttrace: the trace has more than 131071 characters\n");
-        return;
+fn read_piece(room: &mut [u8]) -> usize
+    ensures { λ r. ⌜ r ≤ length (now (room .entry)) ⌝ }
+{
+    let got = libc::read(0, room);
+    io::count(got, room)
+}
+
+// Reads to the end of the input, or until the trace is refused whatever follows. Returns how many characters it read.
+fn read_trace(text: &mut [u8]) -> usize
+    ensures { λ r. ⌜ r ≤ length (now (text .entry)) ⌝ }
+{
+    let mut len = 0;
+    while len < text.len() {
+        let n = read_piece(&mut text[len..]);
+        if n == 0 {
+            return len;
+        }
+        len += n;
+        if settled(&text[..len]) {
+            return len;
+        }
     }
+    len
+}
+
+fn main() {
+    let mut text = trace_room();
+    let len = read_trace(&mut text);
     run(&text[..len]);
 }

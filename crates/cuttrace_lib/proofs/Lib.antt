@@ -6,3 +6,4 @@ pub mod Begun
 pub mod Prints
 pub mod Places
 pub mod Traces
+pub mod Settles

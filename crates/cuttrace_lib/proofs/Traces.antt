@@ -1,29 +1,31 @@
 -- A whole trace. Assumes nothing.
 use mathlib.Core.Path.{_≡_, refl, sym, ap, _∙_}
+use mathlib.Core.Bool.{cond, _||_}
 use mathlib.Core.List.{List, [], _∷_, _++_}
 use Prim.Native.Nat.{ℕ, _+_, _-_, _%_, _≤_, _<_}
 use native.Mathlib.Numerals.{add-one}
 use native.Mathlib.Omega.{arith}
-use lib.Dec.{eqb}
+use lib.Dec.{ltb, eqb}
 use lib.ListN.{length, take, drop}
 use lib.Seq.{length-take-le}
-use borrow.Author.Tests.{eqb-true, eq-eqb, ne-eqb}
+use borrow.Author.Tests.{eqb-true, eq-eqb, ne-eqb, lt-ltb, le-ltb}
 use Rattle.lists.specs.Questions.{asked}
 use Rattle.lists.proofs.Bools.{cases}
 use Rattle.lists.proofs.Parts.{rest, front-of}
 use Rattle.kind.specs.declared.SaveType.{SaveType}
 use Rattle.kind.specs.Kind.{memorySize}
 use Rattle.frames.specs.declared.FirstLine.{FirstLine}
-use Rattle.frames.specs.declared.FirstLine.the-variants.{Fresh}
+use Rattle.frames.specs.declared.FirstLine.the-variants.{Fresh, NoKind}
 use Rattle.frames.specs.Frames.{firstLine, lineOf}
 use Rattle.carttrace_lib.specs.Trace.{linesFrom}
+use Rattle.carttrace_lib.specs.Claims.{isNoKind}
 use Rattle.call_list.specs.Items.{items, endingRoom, room}
 use Rattle.replay.specs.Replay.{replayQuestions, replay}
 use Rattle.replay.proofs.Whole.{out-holds}
 use Rattle.cuttrace_lib.specs.Lines.{lineLength, listOf}
 use Rattle.cuttrace_lib.specs.Printing.{Shows, linesText, linesRoom}
 use Rattle.cuttrace_lib.specs.Setup.{imageOf, prelude, preludeRoom}
-use Rattle.cuttrace_lib.specs.Cuttrace.{acceptedText, replayText, playFrom, playLines, cuttrace}
+use Rattle.cuttrace_lib.specs.Cuttrace.{acceptedText, replayText, played, longestTrace, playFrom, playLines, cuttrace, settled}
 use Rattle.cuttrace_lib.proofs.Texts.{first-line, none-behind}
 use Rattle.cuttrace_lib.proofs.Codes.{put-code}
 use Rattle.cuttrace_lib.proofs.Places.{list-room}
@@ -41,7 +43,7 @@ behind-last text end h = none-behind text end h ∙ sym (none-behind text (end +
 
 -- a trace with a first line
 trace-said : (text memory scratch answers : List ℕ) (end from : ℕ) → 0 < length text → end ≡ lineLength text → drop from text ≡ drop (end + 1) text
-    → cuttrace text memory scratch answers ≡ playFrom (firstLine (take end text)) (linesFrom [] (take (length text - from) (drop from text))) memory scratch answers
+    → cuttrace text memory scratch answers ≡ playFrom (firstLine (take end text)) (length text) (linesFrom [] (take (length text - from) (drop from text))) memory scratch answers
 unfolding cuttrace playLines
 trace-said text memory scratch answers end from h e d =
     rw (first-line [] text (omega arith), ← e, rest from text, d, add-one end)
@@ -79,12 +81,12 @@ module _ (kind : SaveType) (lines : List (List ℕ)) (memory scratch answers : L
     unfolding said
     replay-said = e ∙ (λ j. replay (i j) (l j) (take (k j) memory) (take (k j) scratch) answers)
 
-    pub text-refused : (r ≡ 0 → ⊥) → playFrom (Fresh kind) lines memory scratch answers ≡ lineOf (r % 256) []
-    unfolding playFrom replayText said
+    pub text-refused : (r ≡ 0 → ⊥) → played kind lines memory scratch answers ≡ lineOf (r % 256) []
+    unfolding played replayText said
     text-refused h = (λ j. replayText kind lines (sym replay-said j)) ∙ rw (ne-eqb r 0 h)
 
-    pub text-accepted : r ≡ 0 → playFrom (Fresh kind) lines memory scratch answers ≡ acceptedText kind lines a'
-    unfolding playFrom replayText said
+    pub text-accepted : r ≡ 0 → played kind lines memory scratch answers ≡ acceptedText kind lines a'
+    unfolding played replayText said
     text-accepted h = (λ j. replayText kind lines (sym replay-said j)) ∙ rw (eq-eqb r 0 h)
 
     pub answers-held : r ≡ 0 → length a' ≡ length answers → memorySize kind ≤ length memory → preludeRoom kind + (linesRoom lines + endingRoom (memorySize kind)) ≤ length a'
@@ -95,7 +97,28 @@ module _ (kind : SaveType) (lines : List (List ℕ)) (memory scratch answers : L
 
 -- a trace by what its first line says
 pub trace-first : (text memory scratch answers : List ℕ) (end from : ℕ) (first : FirstLine) → (length text ≡ 0 → ⊥) → end ≡ lineLength text → drop from text ≡ drop (end + 1) text → first ≡ firstLine (take end text)
-    → cuttrace text memory scratch answers ≡ playFrom first (linesFrom [] (take (length text - from) (drop from text))) memory scratch answers
+    → cuttrace text memory scratch answers ≡ playFrom first (length text) (linesFrom [] (take (length text - from) (drop from text))) memory scratch answers
 trace-first text memory scratch answers end from first h e d f =
     trace-said text memory scratch answers end from (omega (arith, h)) e d
-    ∙ ap (λ (x : FirstLine). playFrom x (linesFrom [] (take (length text - from) (drop from text))) memory scratch answers) (sym f)
+    ∙ ap (λ (x : FirstLine). playFrom x (length text) (linesFrom [] (take (length text - from) (drop from text))) memory scratch answers) (sym f)
+
+-- a trace that is too long, and one that is not
+pub too-long : (kind : SaveType) (n : ℕ) (lines : List (List ℕ)) (memory scratch answers : List ℕ) → longestTrace < n → playFrom (Fresh kind) n lines memory scratch answers ≡ lineOf 0xfd []
+unfolding playFrom
+too-long kind n lines memory scratch answers h = rw (lt-ltb longestTrace n h)
+
+pub not-long : (kind : SaveType) (n : ℕ) (lines : List (List ℕ)) (memory scratch answers : List ℕ) → n ≤ longestTrace → playFrom (Fresh kind) n lines memory scratch answers ≡ played kind lines memory scratch answers
+unfolding playFrom
+not-long kind n lines memory scratch answers h = rw (le-ltb longestTrace n h)
+
+-- whether it is settled, by its first line
+pub settled-said : (text : List ℕ) (end : ℕ) (first : FirstLine) → end ≡ lineLength text → first ≡ firstLine (take end text)
+    → settled text ≡ cond (isNoKind first) (ltb end (length text) || ltb 2 end) (ltb longestTrace (length text))
+unfolding settled
+settled-said text end first e f = rw (f, e)
+
+pub bad-ended : (text : List ℕ) (end : ℕ) → end ≡ lineLength text → NoKind ≡ firstLine (take end text) → end < length text → ltb end (length text) ≡ settled text
+bad-ended text end e f h = let l = lt-ltb end (length text) h in rw l (sym (settled-said text end NoKind e f ∙ rw l))
+
+pub bad-unended : (text : List ℕ) (end : ℕ) → end ≡ lineLength text → NoKind ≡ firstLine (take end text) → length text ≤ end → ltb 2 end ≡ settled text
+bad-unended text end e f h = sym (settled-said text end NoKind e f ∙ rw (le-ltb end (length text) h))

@@ -2,3 +2,4 @@ pub mod Lines
 pub mod Printing
 pub mod Setup
 pub mod Cuttrace
+pub mod Claims

@@ -7,7 +7,9 @@ mod rooms;
 mod setup;
 mod whole;
 
-pub use rooms::answers_room;
+pub use rooms::large_room;
 pub use rooms::output_room;
 pub use rooms::room;
+pub use rooms::trace_room;
 pub use whole::run_trace;
+pub use whole::settled;

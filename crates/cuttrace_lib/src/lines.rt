@@ -9,6 +9,7 @@ ghost use Prim.Native.Nat.{_+_, _*_, _≤_};
 ghost use lib.ListN.{length, take};
 ghost use Rattle.carttrace_lib.specs.Trace.{linesFrom};
 ghost use Rattle.cuttrace_lib.specs.Lines.{lineLength, lineItem, lineCode, codeLength, listOf};
+ghost use Rattle.cuttrace_lib.specs.Cuttrace.{longestTrace};
 
 // How many characters are before the line feed, or the text's end.
 pub fn line_length(text: &[u8]) -> usize
@@ -58,7 +59,7 @@ fn code_length(item: Item) -> usize
 
 // Writes the list to the front of the room and returns its length.
 pub fn collect(text: &[u8], room: &mut [u8]) -> usize
-    requires { ⌜ length (now text) ≤ 131072 ⌝ }
+    requires { ⌜ length (now text) ≤ longestTrace ⌝ }
     requires { ⌜ length (now text) ≤ 2 * length (now room) ⌝ }
     ensures { λ r. ⌜ take r (now (room .exit)) ≡ listOf (linesFrom [] (now (text .entry))) ⌝ }
     ensures { λ r. ⌜ 2 * r ≤ length (now (text .entry)) + 1 ⌝ }

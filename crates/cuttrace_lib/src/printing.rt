@@ -14,6 +14,7 @@ ghost use Rattle.carttrace_lib.specs.Trace.{linesFrom};
 ghost use Rattle.call_list.specs.Items.{endingRoom};
 ghost use Rattle.cuttrace_lib.specs.Printing.{Shows, answerText, itemText, fileText, endingText};
 ghost use Rattle.cuttrace_lib.specs.Printing.{linesText, linesRoom};
+ghost use Rattle.cuttrace_lib.specs.Cuttrace.{longestTrace};
 
 // A refusal's number alone, or 00 and the bytes after the status.
 fn print_answer(answer: &[u8], out: &mut [u8]) -> usize
@@ -82,7 +83,7 @@ pub fn print_lines(
     answers: &[u8],
     out: &mut [u8],
 ) -> usize
-    requires { ⌜ length (now text) ≤ 131072 ⌝ }
+    requires { ⌜ length (now text) ≤ longestTrace ⌝ }
     requires { ⌜ memory ≤ 131072 ⌝ }
     requires { ⌜ length (now text) ≤ 2 * length (now room) ⌝ }
     requires { ⌜ linesRoom (linesFrom [] (now text)) + endingRoom memory ≤ length (now answers) ⌝ }

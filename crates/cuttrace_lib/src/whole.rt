@@ -16,17 +16,20 @@ ghost use mathlib.Core.List.{[], _++_};
 ghost use Prim.Native.Nat.{_+_, _*_, _≤_};
 ghost use lib.ListN.{length, take, drop};
 ghost use Rattle.kind.specs.Kind.{memorySize};
-ghost use Rattle.frames.specs.declared.FirstLine.the-variants.{Fresh};
 ghost use Rattle.carttrace_lib.specs.Trace.{linesFrom};
 ghost use Rattle.cuttrace_lib.specs.Lines.{listOf};
 ghost use Rattle.call_list.specs.Items.{endingRoom};
 ghost use Rattle.cuttrace_lib.specs.Printing.{Shows, linesRoom};
 ghost use Rattle.cuttrace_lib.specs.Setup.{prelude, preludeRoom};
-ghost use Rattle.cuttrace_lib.specs.Cuttrace.{acceptedText, playFrom, cuttrace};
+ghost use Rattle.cuttrace_lib.specs.Cuttrace.{acceptedText, played, longestTrace, cuttrace};
+ghost use Rattle.cuttrace_lib.specs.Cuttrace.{settled as settled·spec};
+
+// A trace of more characters is refused.
+const LONGEST_TRACE: usize = 500000;
 
 // Writes the list to the front of the room and returns its length.
 fn put_list(kind: SaveType, text: &[u8], room: &mut [u8]) -> usize
-    requires { ⌜ length (now text) ≤ 131072 ⌝ }
+    requires { ⌜ length (now text) ≤ longestTrace ⌝ }
     requires { ⌜ 16394 + length (now text) ≤ 2 * length (now room) ⌝ }
     ensures { λ r. ⌜ take r (now (room .exit)) ≡ prelude kind ++ listOf (linesFrom [] (now (text .entry))) ⌝ }
     ensures { λ r. ⌜ r ≤ length (now (room .exit)) ⌝ }
@@ -37,7 +40,7 @@ fn put_list(kind: SaveType, text: &[u8], room: &mut [u8]) -> usize
 
 // Prints the answers of an accepted replay.
 fn print_all(kind: SaveType, text: &[u8], room: &mut [u8], answers: &[u8], out: &mut [u8]) -> usize
-    requires { ⌜ length (now text) ≤ 131072 ⌝ }
+    requires { ⌜ length (now text) ≤ longestTrace ⌝ }
     requires { ⌜ length (now text) ≤ 2 * length (now room) ⌝ }
     requires { ⌜ preludeRoom kind + (linesRoom (linesFrom [] (now text)) + endingRoom (memorySize kind))
         ≤ length (now answers) ⌝ }
@@ -67,12 +70,12 @@ fn play_lines(
     answers: &mut [u8],
     out: &mut [u8],
 ) -> usize
-    requires { ⌜ length (now text) ≤ 131072 ⌝ }
+    requires { ⌜ length (now text) ≤ longestTrace ⌝ }
     requires { ⌜ 16394 + length (now text) ≤ 2 * length (now list) ⌝ }
     requires { ⌜ 131072 ≤ length (now memory) ⌝ }
     requires { ⌜ 131072 ≤ length (now scratch) ⌝ }
     requires { ⌜ 2 * length (now answers) + 3 * length (now text) + 12 ≤ length (now out) ⌝ }
-    ensures { λ r. ⌜ Shows (playFrom (Fresh kind) (linesFrom [] (now (text .entry)))
+    ensures { λ r. ⌜ Shows (played kind (linesFrom [] (now (text .entry)))
         (now (memory .entry)) (now (scratch .entry)) (now (answers .entry)))
         r (now (out .exit)) (now (out .entry)) ⌝ }
 {
@@ -114,11 +117,10 @@ pub fn run_trace(
     answers: &mut [u8],
     out: &mut [u8],
 ) -> usize
-    requires { ⌜ length (now text) ≤ 131072 ⌝ }
-    requires { ⌜ 16394 + length (now text) ≤ 2 * length (now list) ⌝ }
+    requires { ⌜ 16394 + longestTrace ≤ 2 * length (now list) ⌝ }
     requires { ⌜ 131072 ≤ length (now memory) ⌝ }
     requires { ⌜ 131072 ≤ length (now scratch) ⌝ }
-    requires { ⌜ 2 * length (now answers) + 3 * length (now text) + 12 ≤ length (now out) ⌝ }
+    requires { ⌜ 2 * length (now answers) + 3 * longestTrace + 12 ≤ length (now out) ⌝ }
     ensures { λ r. ⌜ Shows
         (cuttrace (now (text .entry)) (now (memory .entry)) (now (scratch .entry)) (now (answers .entry)))
         r (now (out .exit)) (now (out .entry)) ⌝ }
@@ -130,15 +132,23 @@ pub fn run_trace(
     let end = line_length(text);
     let from = after_line(end, text);
     match first_kind(&text[..end]) {
-        FirstLine::Fresh(kind) => play_lines(
-            kind,
-            &text[from..],
-            list,
-            memory,
-            scratch,
-            answers,
-            out,
-        ),
+        FirstLine::Fresh(kind) => {
+            if LONGEST_TRACE < text.len() {
+                return print_line(out, 0xFD, b"");
+            }
+            play_lines(kind, &text[from..], list, memory, scratch, answers, out)
+        }
         FirstLine::NoKind => print_line(out, 0xFF, b""),
+    }
+}
+
+// Whether a trace is refused whatever follows. A caller then reads no further.
+pub fn settled(text: &[u8]) -> bool
+    ensures { λ r. ⌜ r ≡ settled·spec (now (text .entry)) ⌝ }
+{
+    let end = line_length(text);
+    match first_kind(&text[..end]) {
+        FirstLine::Fresh(_) => LONGEST_TRACE < text.len(),
+        FirstLine::NoKind => end < text.len() || 2 < end,
     }
 }

@@ -1,19 +1,16 @@
 // Runs the trace in each file that an argument names, and prints what cuttrace prints for it.
 
-use cuttrace_lib::answers_room;
+use cuttrace_lib::large_room;
 use cuttrace_lib::output_room;
 use cuttrace_lib::room;
 use cuttrace_lib::run_trace;
-ghost use Prim.Native.Nat.{_<_};
-ghost use lib.ListN.{length};
+use cuttrace_lib::trace_room;
 
-fn run(text: &[u8])
-    requires { ⌜ length (now text) < 131072 ⌝ }
-{
-    let mut list = room();
+fn run(text: &[u8]) {
+    let mut list = large_room();
     let mut memory = room();
     let mut scratch = room();
-    let mut answers = answers_room();
+    let mut answers = large_room();
     let mut out = output_room();
     let n = run_trace(
         text,
@@ -26,7 +23,7 @@ fn run(text: &[u8])
     io::write_all(1, &out[..n]);
 }
 
-// A file of at most 131,071 bytes.
+// A file that is longer than the longest trace is refused by its beginning.
 fn case(k: usize) {
     let mut path = io::buffer();
     let n = os::arg(k, &mut path);
@@ -38,13 +35,9 @@ fn case(k: usize) {
         os::fail(&path[..n]);
         return;
     }
-    let mut text = room();
+    let mut text = trace_room();
     let len = io::read_full(fd, &mut text);
     libc::close(fd);
-    if 131072 <= len {
-        os::fail(&path[..n]);
-        return;
-    }
     run(&text[..len]);
 }
 
