@@ -418,7 +418,7 @@ uint32_t gbasave_load_save(gbasave_record *record, uint8_t *memory, size_t memor
 
 /*
  * Reads the changed flag and clears it. The flag is 1 if a write has stored anything since the flag was last taken.
- * Byte writes to an EEPROM kind, loads and imports do not set it.
+ * Byte writes to an EEPROM kind, loads, imports and restores do not set it. The caller sets it when it resumes a state.
  *   Asks:    2
  *   Writes:  *flag, 0 or 1.
  *   Changes: record: flag 0.
