@@ -88,14 +88,15 @@
  *   - the file from gbasave_save_data, if there is one (*length is not 0);
  *   - the 18 bytes from gbasave_chip_state;
  *   - what identifies the cartridge: the kind and the image's length (both in the record), and gbasave_rom_crc of the
- *     image. Compute it when the image is opened.
+ *     image. Compute the CRC once, when the image is opened.
  * The file and the 18 bytes do not say to which cartridge they belong. gbasave_load_save and
  * gbasave_restore_chip_state accept those of another cartridge, also of another kind, and overwrite its save. Only the
  * caller can prevent this.
  *
  * TO RESUME A STATE, in this process or in another:
  *   1. Compare the kind, the image's length and the CRC with those of the cartridge that is to go on. If one of them
- *      differs, stop: the state belongs to another cartridge.
+ *      differs, stop: the state belongs to another cartridge. Check also that the file is complete: the load takes a
+ *      file of any length.
  *   2. If that cartridge is not open, open it with gbasave_from_bytes. If it is open, keep its record and its memory:
  *      opening it again makes no difference except to the flag, and takes the time of a search of the image.
  *   3. Pass the 18 bytes to gbasave_restore_chip_state. If they are refused, stop: the cartridge is unchanged.
@@ -418,7 +419,7 @@ uint32_t gbasave_load_save(gbasave_record *record, uint8_t *memory, size_t memor
 
 /*
  * Reads the changed flag and clears it. The flag is 1 if a write has stored anything since the flag was last taken.
- * Byte writes to an EEPROM kind, loads and imports do not set it.
+ * Byte writes to an EEPROM kind, loads, imports and restores do not set it. The caller sets it when it resumes a state.
  *   Asks:    2
  *   Writes:  *flag, 0 or 1.
  *   Changes: record: flag 0.

@@ -17,7 +17,8 @@ uint32_t cartridge_open(cartridge *cart, const uint8_t *image, size_t image_leng
     }
     cart->id.kind = cart->record.bytes[GBASAVE_RECORD_KIND];
     cart->id.image_length = (uint32_t)image_length;
-    return gbasave_rom_crc(image, image_length, &cart->id.image_crc);
+    accepted("CRC", gbasave_rom_crc(image, image_length, &cart->id.image_crc));
+    return GBASAVE_ACCEPTED;
 }
 
 void cartridge_close(cartridge *cart)
