@@ -298,6 +298,27 @@ uint32_t gbasave_title(const uint8_t *image, size_t image_length, uint8_t *desti
  */
 uint32_t gbasave_rom_crc(const uint8_t *image, size_t image_length, uint32_t *value);
 
+/*
+ * Compute the CRC-32/IEEE of an image that the host reads in parts, as from a card. The caller's number *crc is passed
+ * from call to call:
+ *
+ *     gbasave_crc_start(&crc);
+ *     while ((part_length = next_part(part)) != 0) gbasave_crc_feed(&crc, part, part_length);
+ *     gbasave_crc_finish(&crc);
+ *
+ * gbasave_crc_start begins, gbasave_crc_feed takes the next part, gbasave_crc_finish ends. The parts are fed in the
+ * image's order, none twice and none left out. A part may have any length; one of 0 bytes changes nothing. It is
+ * proved that, however the image is cut into parts, *crc is at the end what gbasave_rom_crc writes for the whole.
+ *   Asks:    nothing, and each returns 0. No call sees the whole image, so the host itself asks question 1 about the
+ *            sum of the parts' lengths. If the answer is no, *crc is still the CRC-32/IEEE of the bytes fed.
+ *   Changes: *crc. Before the end it is not yet a CRC. It may be copied: a finished copy is the CRC of the parts so
+ *            far. After the end it is not fed again.
+ *   Time:    It grows with the part's length. Per byte it is least if every part is a multiple of 32,768 bytes long.
+ */
+uint32_t gbasave_crc_start(uint32_t *crc);
+uint32_t gbasave_crc_feed(uint32_t *crc, const uint8_t *part, size_t part_length);
+uint32_t gbasave_crc_finish(uint32_t *crc);
+
 /* ---- Opening ------------------------------------------------------------------------------------------------------- */
 
 /*

@@ -28,6 +28,17 @@ static void check_version(void)
     printf("gbasave: the header and the archive have the same version\n");
 }
 
+/* The CRC of an image that is read 512 bytes at a time, as from a card. */
+static uint32_t crc_in_parts(const uint8_t *image, size_t length)
+{
+    uint32_t crc;
+    accepted("CRC, start", gbasave_crc_start(&crc));
+    for (size_t at = 0; at < length; at += 512)
+        accepted("CRC, part", gbasave_crc_feed(&crc, image + at, length - at < 512 ? length - at : 512));
+    accepted("CRC, finish", gbasave_crc_finish(&crc));
+    return crc;
+}
+
 static void describe(const uint8_t *image, size_t length)
 {
     uint8_t title[GBASAVE_TITLE_SIZE];
@@ -38,6 +49,7 @@ static void describe(const uint8_t *image, size_t length)
     accepted("read", gbasave_read32(image, length, (uint32_t)length - 1, &last));
     expect("past the image's last byte are zeros", last == image[length - 1]);
     accepted("CRC", gbasave_rom_crc(image, length, &crc));
+    expect("the CRC is the same in parts", crc_in_parts(image, length) == crc);
     accepted("kind", gbasave_detect_save_type(image, length, &kind));
     accepted("memory", gbasave_memory_size(kind, &size));
     printf("Image \"%.*s\", %zu bytes, CRC %08" PRIX32 ", header check %02" PRIX32 ", %s\n", (int)title_length, (char *)title,

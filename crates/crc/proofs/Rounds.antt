@@ -2,6 +2,7 @@
 use mathlib.Core.Path.{_≡_, refl, sym, ap, _∙_}
 use mathlib.Core.List.{List, [], _∷_}
 use Prim.Native.Nat.{ℕ, _+_, _*_, _%_, _^_, _<_, _≤_}
+use native.Mathlib.Nat.{zero-add}
 use native.Mathlib.Omega.{arith}
 use lib.Bits.{bitXor, xor-comm, xor-shifted}
 use lib.ListN.{length, take, drop, getD}
@@ -9,6 +10,7 @@ use lib.Seq.{drop-drop}
 use Rattle.lists.specs.Lists.{fold}
 use Rattle.lists.proofs.Parts.{spells}
 use Rattle.crc.specs.Crc.{crcBits, crcByte}
+use Rattle.crc.specs.declared.Registers.{Registers}
 use Rattle.crc.specs.Lanes.{lane, laneEnds, started, wordAt, wordsIn, bytesOut}
 use Rattle.crc.proofs.Folds.{fold-take}
 use Rattle.crc.proofs.Polynomial.{xor-assoc, bits-xor, bits-zero}
@@ -55,6 +57,23 @@ four-on i h = omega arith
 
 pub four-fits : (i : ℕ) → i % 4 ≡ 0 → i < 4096 → i + 4 ≤ 4096
 four-fits i h k = omega arith
+
+-- four bytes of each lane, as they are read
+pub words-read : (s : List ℕ) (i : ℕ) (v : Registers) {w₀ w₁ w₂ w₃ w₄ w₅ w₆ w₇ : ℕ}
+    → w₀ ≡ wordAt s i → w₁ ≡ wordAt s (4096 + i) → w₂ ≡ wordAt s (8192 + i) → w₃ ≡ wordAt s (12288 + i)
+    → w₄ ≡ wordAt s (16384 + i) → w₅ ≡ wordAt s (20480 + i) → w₆ ≡ wordAt s (24576 + i) → w₇ ≡ wordAt s (28672 + i)
+    → record {
+      r0 = bitXor (v .r0) w₀;
+      r1 = bitXor (v .r1) w₁;
+      r2 = bitXor (v .r2) w₂;
+      r3 = bitXor (v .r3) w₃;
+      r4 = bitXor (v .r4) w₄;
+      r5 = bitXor (v .r5) w₅;
+      r6 = bitXor (v .r6) w₆;
+      r7 = bitXor (v .r7) w₇;
+    } ≡ wordsIn s i v
+unfolding wordsIn
+words-read s i v e₀ e₁ e₂ e₃ e₄ e₅ e₆ e₇ = rw (e₀, e₁, e₂, e₃, e₄, e₅, e₆, e₇, zero-add)
 
 pub none-yet : (c : ℕ) (s : List ℕ) → started c ≡ laneEnds c s 0
 unfolding laneEnds lane fold

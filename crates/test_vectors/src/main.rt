@@ -1,5 +1,7 @@
 // Vectors of the image's side, each with its answer: what a reader holds against a book or another program.
-use crc::crc32;
+mod crcs;
+
+use crcs::crcs;
 use file_sizes::SaveFit;
 use file_sizes::save_fit;
 use file_sizes::save_size;
@@ -10,11 +12,11 @@ use title::header_title;
 ghost use Prim.Native.Nat.{_+_, _≤_};
 ghost use lib.ListN.{length};
 
-fn print(text: &[u8]) {
+pub fn print(text: &[u8]) {
     io::write_all(1, text);
 }
 
-fn print_byte(b: u8) {
+pub fn print_byte(b: u8) {
     let digits = [hex::character(b / 16), hex::character(b % 16)];
     print(&digits);
 }
@@ -42,18 +44,6 @@ fn put(image: &mut [u8], place: usize, text: &[u8])
     requires { ⌜ place + length (now text) ≤ length (now image) ⌝ }
 {
     copy(&mut image[place..], text);
-}
-
-fn crc(text: &[u8]) {
-    print(b"crc ");
-    print(text);
-    print(b": ");
-    let c = crc32(text);
-    print_byte(((c >> 24) % 256) as u8);
-    print_byte(((c >> 16) % 256) as u8);
-    print_byte(((c >> 8) % 256) as u8);
-    print_byte((c % 256) as u8);
-    print(b"\n");
 }
 
 // Twelve title bytes, the title's length, and a destination that was 36 bytes 2Eh.
@@ -126,11 +116,6 @@ fn sizes(kind: SaveType) {
     fits(kind, 65536);
     fits(kind, 131072);
     print(b"\n");
-}
-
-fn crcs() {
-    crc(b"");
-    crc(b"123456789");
 }
 
 // The Unicode Standard's tables 3-8 to 3-11, sequences that the title's end cuts off, zeros inside and at the end.

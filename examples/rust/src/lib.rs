@@ -31,6 +31,7 @@
 
 mod answer;
 mod cartridge;
+mod crc;
 mod image;
 mod kind;
 mod raw;
@@ -39,6 +40,7 @@ mod state;
 mod version;
 
 pub use cartridge::Cartridge;
+pub use crc::Crc;
 pub use image::{detect_save_type, header_checksum, read, read16, read32, rom_crc, save_fit, save_size, title};
 pub use kind::Kind;
 pub use refusal::Refusal;

@@ -37,6 +37,9 @@ extern "C" {
         length: &mut u32,
     ) -> u32;
     pub fn gbasave_rom_crc(image: *const u8, image_length: usize, value: &mut u32) -> u32;
+    pub fn gbasave_crc_start(crc: &mut u32) -> u32;
+    pub fn gbasave_crc_feed(crc: &mut u32, part: *const u8, part_length: usize) -> u32;
+    pub fn gbasave_crc_finish(crc: &mut u32) -> u32;
     pub fn gbasave_from_bytes(
         record: &mut Record,
         image: *const u8,

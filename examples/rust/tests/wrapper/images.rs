@@ -35,6 +35,22 @@ fn header_and_crc() {
 }
 
 #[test]
+fn crc_in_parts() {
+    let image: Vec<u8> = (0..100_000).map(|i| (i % 251) as u8).collect();
+    for length in [1, 7, 512, 32_768, 40_000, 100_000] {
+        let mut crc = Crc::start();
+        crc.feed(&[]);
+        image.chunks(length).for_each(|part| crc.feed(part));
+        assert_eq!(Ok(crc.finish()), rom_crc(&image));
+    }
+    let mut crc = Crc::start();
+    crc.feed(b"1234");
+    assert_eq!(crc.clone().finish(), 0x9BE3_E0A3);
+    crc.feed(b"56789");
+    assert_eq!(crc.finish(), 0xCBF4_3926);
+}
+
+#[test]
 fn titles() {
     assert_eq!(title(&game::image("TWELVE BYTES", "")).as_deref(), Ok("TWELVE BYTES"));
     assert_eq!(title(&[0; 192]).as_deref(), Ok(""));

@@ -1,12 +1,10 @@
 -- `crc::lanes::words_in` meets its contract. Assumes nothing.
-use native.Mathlib.Nat.{zero-add}
 use native.Mathlib.Omega.{arith}
-use Rattle.crc.specs.Lanes.{wordsIn}
+use Rattle.crc.proofs.Rounds.{words-read}
 use Rattle.crc.proofs.lanes.words_in.Statement.{statement}
 use Rattle.crc.proofs.lanes.words_in.Tie as tie
 
 returns : tie.Need-returns
-unfolding wordsIn
 returns c =
     let c8 = c .before in
     let c7 = c8 .before .before in
@@ -15,17 +13,11 @@ returns c =
     let c4 = c5 .before .before in
     let c3 = c4 .before .before in
     let c2 = c3 .before .before in
-    rw (
-      c2 .before .before .word-at .ensures,
-      c2 .word-at2 .ensures,
-      c3 .word-at3 .ensures,
-      c4 .word-at4 .ensures,
-      c5 .word-at5 .ensures,
-      c6 .word-at6 .ensures,
-      c7 .word-at7 .ensures,
-      c8 .word-at8 .ensures,
-      zero-add,
-    )
+    let c1 = c2 .before .before in
+    let a = c1 .before .before .args in
+    words-read (a .s .now) (a .i) (a .v)
+    (c1 .word-at .ensures) (c2 .word-at2 .ensures) (c3 .word-at3 .ensures) (c4 .word-at4 .ensures)
+    (c5 .word-at5 .ensures) (c6 .word-at6 .ensures) (c7 .word-at7 .ensures) (c8 .word-at8 .ensures)
 
 add-word-at-6 : tie.Need-add-word-at-6
 add-word-at-6 c =

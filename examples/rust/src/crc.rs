@@ -1,0 +1,27 @@
+//! The CRC of an image that is read in parts.
+
+use crate::raw;
+
+/// Computes the CRC-32/IEEE of an image that is read in parts, as from a card. Fed all parts in order and finished, it is what
+/// [`rom_crc`](crate::rom_crc) returns for the whole.
+#[derive(Clone, Debug)]
+pub struct Crc(u32);
+
+impl Crc {
+    pub fn start() -> Self {
+        let mut crc = 0;
+        unsafe { raw::gbasave_crc_start(&mut crc) };
+        Self(crc)
+    }
+
+    /// Takes the next part. An empty one changes nothing.
+    pub fn feed(&mut self, part: &[u8]) {
+        unsafe { raw::gbasave_crc_feed(&mut self.0, part.as_ptr(), part.len()) };
+    }
+
+    /// Returns the CRC of the parts so far.
+    pub fn finish(mut self) -> u32 {
+        unsafe { raw::gbasave_crc_finish(&mut self.0) };
+        self.0
+    }
+}
