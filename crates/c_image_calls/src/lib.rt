@@ -3,16 +3,12 @@
 mod pieces;
 mod sizes;
 
-use image::image_length;
-use kind::kind_number;
-use out_params::tell;
 pub use pieces::crc_feed;
 pub use pieces::crc_finish;
 pub use pieces::crc_start;
 pub use sizes::memory_size;
 pub use sizes::save_fit;
 pub use sizes::save_size;
-use title::header_title;
 ghost use mathlib.Core.Path.{_≡_};
 ghost use Rattle.out_params.specs.Places.{answeredAt, kindAnswer, titleAt};
 ghost use Rattle.image.specs.Image.{read as read·spec, headerChecksum};
@@ -25,7 +21,7 @@ pub fn read(image: &[u8], address: u32, value: &mut u32) -> u32
         ≡ answeredAt (read·spec 1 (now (image .entry)) address) (now (value .entry)) ⌝ }
 {
     let byte = image::read(image, address);
-    tell(byte.refusal, byte.value, value)
+    out_params::tell(byte.refusal, byte.value, value)
 }
 
 pub fn read16(image: &[u8], address: u32, value: &mut u32) -> u32
@@ -34,7 +30,7 @@ pub fn read16(image: &[u8], address: u32, value: &mut u32) -> u32
         ≡ answeredAt (read·spec 2 (now (image .entry)) address) (now (value .entry)) ⌝ }
 {
     let half = image::read16(image, address);
-    tell(half.refusal, half.value, value)
+    out_params::tell(half.refusal, half.value, value)
 }
 
 pub fn read32(image: &[u8], address: u32, value: &mut u32) -> u32
@@ -43,14 +39,15 @@ pub fn read32(image: &[u8], address: u32, value: &mut u32) -> u32
         ≡ answeredAt (read·spec 4 (now (image .entry)) address) (now (value .entry)) ⌝ }
 {
     let word = image::read32(image, address);
-    tell(word.refusal, word.value, value)
+    out_params::tell(word.refusal, word.value, value)
 }
 
 pub fn header_checksum(image: &[u8], value: &mut u32) -> u32
-    ensures { λ x. ⌜ (x, now (value .exit)) ≡ answeredAt (headerChecksum (now (image .entry))) (now (value .entry)) ⌝ }
+    ensures { λ x. ⌜ (x, now (value .exit))
+        ≡ answeredAt (headerChecksum (now (image .entry))) (now (value .entry)) ⌝ }
 {
     let sum = image::header_checksum(image);
-    tell(sum.refusal, sum.value, value)
+    out_params::tell(sum.refusal, sum.value, value)
 }
 
 pub fn title(image: &[u8], destination: &mut [u8], length: &mut u32) -> u32
@@ -58,23 +55,23 @@ pub fn title(image: &[u8], destination: &mut [u8], length: &mut u32) -> u32
         (x, now (destination .exit), now (length .exit))
         ≡ titleAt (headerTitle (now (image .entry)) (now (destination .entry))) (now (length .entry)) ⌝ }
 {
-    let title = header_title(image, destination);
-    tell(title.refusal, title.value, length)
+    let title = title::header_title(image, destination);
+    out_params::tell(title.refusal, title.value, length)
 }
 
 pub fn rom_crc(image: &[u8], value: &mut u32) -> u32
     ensures { λ x. ⌜ (x, now (value .exit)) ≡ answeredAt (romCrc (now (image .entry))) (now (value .entry)) ⌝ }
 {
     let crc = crc::rom_crc(image);
-    tell(crc.refusal, crc.value, value)
+    out_params::tell(crc.refusal, crc.value, value)
 }
 
 pub fn detect_save_type(image: &[u8], kind: &mut u32) -> u32
     ensures { λ x. ⌜ (x, now (kind .exit)) ≡ answeredAt (kindAnswer (now (image .entry))) (now (kind .entry)) ⌝ }
 {
-    if !image_length(image.len()) {
+    if !image::image_length(image.len()) {
         return 1;
     }
-    *kind = kind_number(kind::detect_save_type(image)) as u32;
+    *kind = kind::kind_number(kind::detect_save_type(image)) as u32;
     0
 }

@@ -1,6 +1,7 @@
 // The calls on an image, or on a kind's number.
 ghost use mathlib.Core.Path.{_≡_};
-ghost use Rattle.out_params.specs.Places.{told, answeredAt, kindAnswer, titleAt, fitAnswer, memorySizeAnswer, sizeAnswer};
+ghost use Rattle.out_params.specs.Places.{told, answeredAt, kindAnswer, titleAt};
+ghost use Rattle.out_params.specs.Places.{fitAnswer, memorySizeAnswer, sizeAnswer};
 ghost use Rattle.image.specs.Image.{read as read·spec, headerChecksum};
 ghost use Rattle.title.specs.Title.{headerTitle};
 ghost use Rattle.crc.specs.Crc.{romCrc};
@@ -32,7 +33,8 @@ pub extern "C" fn gbasave_read32(image: &[u8], address: u32, value: &mut u32) ->
 
 #[no_mangle]
 pub extern "C" fn gbasave_header_checksum(image: &[u8], value: &mut u32) -> u32
-    ensures { λ x. ⌜ (x, now (value .exit)) ≡ answeredAt (headerChecksum (now (image .entry))) (now (value .entry)) ⌝ }
+    ensures { λ x. ⌜ (x, now (value .exit))
+        ≡ answeredAt (headerChecksum (now (image .entry))) (now (value .entry)) ⌝ }
 {
     c_image_calls::header_checksum(image, value)
 }
@@ -86,7 +88,8 @@ pub extern "C" fn gbasave_detect_save_type(image: &[u8], kind: &mut u32) -> u32
 // 0 is kept of a file that cannot be this image's.
 #[no_mangle]
 pub extern "C" fn gbasave_save_fit(image: &[u8], length: usize, kept: &mut u32) -> u32
-    ensures { λ x. ⌜ (x, now (kept .exit)) ≡ answeredAt (fitAnswer (now (image .entry)) length) (now (kept .entry)) ⌝ }
+    ensures { λ x. ⌜ (x, now (kept .exit))
+        ≡ answeredAt (fitAnswer (now (image .entry)) length) (now (kept .entry)) ⌝ }
 {
     c_image_calls::save_fit(image, length, kept)
 }

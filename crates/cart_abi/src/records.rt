@@ -93,7 +93,8 @@ pub extern "C" fn gbasave_import_save(
 
 #[no_mangle]
 pub extern "C" fn gbasave_from_bytes(cart: &mut RecordBytes, image: &[u8], memory: &mut [u8]) -> u32
-    ensures { λ x. ⌜ (x, now (cart .exit), now (memory .exit)) ≡ opens (now (image .entry)) (now (memory .entry)) ⌝ }
+    ensures { λ x. ⌜ (x, now (cart .exit), now (memory .exit))
+        ≡ opens (now (image .entry)) (now (memory .entry)) ⌝ }
 {
     c_state_calls::from_bytes(cart, image, memory)
 }
@@ -101,7 +102,8 @@ pub extern "C" fn gbasave_from_bytes(cart: &mut RecordBytes, image: &[u8], memor
 #[no_mangle]
 pub extern "C" fn gbasave_chip_state(cart: &RecordBytes, bytes: &mut StateBytes) -> u32
     ensures { λ x. ⌜ ((m : List ℕ)
-        → (x, now (cart .entry), m, now (bytes .exit)) ≡ givesState (now (cart .entry)) m (now (bytes .entry))) ⌝ }
+        → (x, now (cart .entry), m, now (bytes .exit))
+        ≡ givesState (now (cart .entry)) m (now (bytes .entry))) ⌝ }
 {
     c_state_calls::chip_state(cart, bytes)
 }

@@ -8,9 +8,6 @@ mod table;
 mod words;
 
 use image::Answer;
-use image::accept;
-use image::image_length;
-use image::refuse;
 pub use pieces::crc_feed;
 pub use pieces::crc_finish;
 pub use pieces::crc_start;
@@ -38,8 +35,8 @@ pub fn crc32(s: &[u8]) -> u32
 pub fn rom_crc(image: &[u8]) -> Answer
     ensures { λ r. ⌜ r ≡ romCrc (now (image .entry)) ⌝ }
 {
-    if !image_length(image.len()) {
-        return refuse(1);
+    if !image::image_length(image.len()) {
+        return image::refuse(1);
     }
-    accept(crc32(image))
+    image::accept(crc32(image))
 }

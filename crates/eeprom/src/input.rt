@@ -11,7 +11,8 @@ use memory::Store;
 ghost use mathlib.Core.Path.{_≡_};
 ghost use Prim.Native.Nat.{_<_};
 ghost use Rattle.eeprom.specs.Eeprom.{wOf, countLimit, serial as serial·spec, kept as kept·spec, shiftIn};
-ghost use Rattle.eeprom.specs.Eeprom.{entered as entered·spec, opcodePhase, decoded as decoded·spec, opcodeBit};
+ghost use Rattle.eeprom.specs.Eeprom.{entered as entered·spec, opcodePhase};
+ghost use Rattle.eeprom.specs.Eeprom.{decoded as decoded·spec, opcodeBit};
 ghost use Rattle.eeprom.specs.Eeprom.{addressed as addressed·spec, wordIn, turned, writeBit};
 
 fn kept(e: Eeprom) -> EepromStep

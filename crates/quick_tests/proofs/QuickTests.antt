@@ -18,7 +18,7 @@ use Rattle.eeprom.specs.declared.EepromPhase.{EepromPhase}
 use Rattle.eeprom.specs.declared.EepromPhase.the-variants.{Opcode, ReadAddress, WriteAddress, WriteData, ReadStop, WriteStop, Reading}
 use Rattle.eeprom.specs.Eeprom.{widthAllowed, w, countLimit}
 use Rattle.eeprom.proofs.Sound.{limit-64}
-use Rattle.cart.proofs.Fields.{w-le}
+use Rattle.eeprom.proofs.Allowed.{w-le}
 use Rattle.cart.specs.ChipState.{phaseOf, fieldQuestions}
 use Rattle.c_record.specs.RecordBytes.{isRecord}
 use Rattle.quick_tests.specs.QuickTests.{isKnown, FlashUsual, FieldsUsual, SerialRests, CountAllowed}

@@ -34,7 +34,8 @@ pub fn known(cart: &RecordBytes) -> bool
 // No ID mode but 0 or 1, and the serial chip at rest.
 fn serial_rests(bytes: &[u8]) -> bool
     requires { ⌜ length (now bytes) ≡ recordSize ⌝ }
-    ensures { λ b. ⌜ (b ≡ true → (getD (now (bytes .entry)) idAt 0 ≤ 1) × SerialRests (now (bytes .entry))) ⌝ }
+    ensures { λ b. ⌜ (b ≡ true → (getD (now (bytes .entry)) idAt 0 ≤ 1)
+        × SerialRests (now (bytes .entry))) ⌝ }
 {
     lists::low64(
         lists::low32(
@@ -55,7 +56,8 @@ fn serial_rests(bytes: &[u8]) -> bool
 
 fn bytes_usual_in(bytes: &[u8]) -> bool
     requires { ⌜ length (now bytes) ≡ recordSize ⌝ }
-    ensures { λ b. ⌜ (b ≡ true → isKnown (now (bytes .entry)) ≡ true → isRecord (now (bytes .entry)) ≡ true) ⌝ }
+    ensures { λ b. ⌜ (b ≡ true → isKnown (now (bytes .entry)) ≡ true
+        → isRecord (now (bytes .entry)) ≡ true) ⌝ }
 {
     if 1 < bytes[layout::DIRTY] {
         return false;
@@ -71,7 +73,8 @@ fn bytes_usual_in(bytes: &[u8]) -> bool
 
 // For the byte calls: the serial chip is at rest.
 pub fn bytes_usual(cart: &RecordBytes) -> bool
-    ensures { λ b. ⌜ (b ≡ true → isKnown (now (cart .entry)) ≡ true → isRecord (now (cart .entry)) ≡ true) ⌝ }
+    ensures { λ b. ⌜ (b ≡ true → isKnown (now (cart .entry)) ≡ true
+        → isRecord (now (cart .entry)) ≡ true) ⌝ }
 {
     bytes_usual_in(&cart[..])
 }
@@ -128,7 +131,8 @@ fn count_usual(phase: u8, count: u8, width: u8) -> bool
 
 // For the serial calls: the flash chip is at rest.
 pub fn serial_usual(cart: &RecordBytes) -> bool
-    ensures { λ b. ⌜ (b ≡ true → isKnown (now (cart .entry)) ≡ true → isRecord (now (cart .entry)) ≡ true) ⌝ }
+    ensures { λ b. ⌜ (b ≡ true → isKnown (now (cart .entry)) ≡ true
+        → isRecord (now (cart .entry)) ≡ true) ⌝ }
 {
     if !fields_usual(&cart[..]) {
         return false;

@@ -69,7 +69,8 @@ pub fn eeprom_write(cart: Cartridge, memory: &mut [u8], value: u16) -> Reply
 }
 
 pub fn eeprom_read(cart: Cartridge, memory: &[u8]) -> Reply
-    ensures { λ r. ⌜ (r, now (memory .entry)) ≡ replied (step eepromRead [] (state cart (now (memory .entry)))) ⌝ }
+    ensures { λ r. ⌜ (r, now (memory .entry))
+        ≡ replied (step eepromRead [] (state cart (now (memory .entry)))) ⌝ }
 {
     let refusal = cart::door(cart, memory.len());
     if refusal != 0 {

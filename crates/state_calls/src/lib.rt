@@ -48,7 +48,8 @@ fn state_answer(refusal: u8, bytes: StateBytes) -> StateAnswer
 
 // The calls below take no memory; their contracts hold for any memory.
 pub fn chip_state(cart: Cartridge) -> StateAnswer
-    ensures { λ r. ⌜ ((m : List ℕ) → (r, state cart m) ≡ stateAnswered (step chipState [] (state cart m))) ⌝ }
+    ensures { λ r. ⌜ ((m : List ℕ) → (r, state cart m)
+        ≡ stateAnswered (step chipState [] (state cart m))) ⌝ }
 {
     if !cart::record_allowed(cart) {
         return state_answer(2, [0; STATE_SIZE]);

@@ -43,7 +43,8 @@ fn show(out: &mut [u8], s: &[u8]) -> Shown
 // The text with its ill-formed parts replaced goes to the front of `out`; the answer is its length.
 fn replace(out: &mut [u8], s: &[u8]) -> usize
     requires { ⌜ 3 * length (now s) ≤ length (now out) ⌝ }
-    ensures { λ r. ⌜ (take r (now (out .exit)) ≡ replaced 0 (now (s .entry))) × (r ≤ length (now (out .exit))) ⌝ }
+    ensures { λ r. ⌜ (take r (now (out .exit)) ≡ replaced 0 (now (s .entry)))
+        × (r ≤ length (now (out .exit))) ⌝ }
 {
     let mut t = s;
     let mut n: usize = 0;
@@ -72,7 +73,8 @@ fn trim(s: &[u8], n: usize) -> usize
 }
 
 pub fn header_title(image: &[u8], destination: &mut [u8]) -> Answer
-    ensures { λ r. ⌜ (r, now (destination .exit)) ≡ headerTitle (now (image .entry)) (now (destination .entry)) ⌝ }
+    ensures { λ r. ⌜ (r, now (destination .exit))
+        ≡ headerTitle (now (image .entry)) (now (destination .entry)) ⌝ }
 {
     if image.len() < 192 {
         return image::refuse(1);
