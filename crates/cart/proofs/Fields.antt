@@ -17,7 +17,7 @@ use Rattle.image.specs.Image.{imageLength}
 use Rattle.flash.specs.Flash.{stateAllowed}
 use Rattle.eeprom.specs.Eeprom.{widthAllowed, w, wOf, countLimit}
 use Rattle.eeprom.proofs.Sound.{limit-64}
-pub use Rattle.eeprom.proofs.Allowed.{w-le}
+use Rattle.eeprom.proofs.Allowed.{w-le}
 use Rattle.cart.specs.declared.ChipRecord.{ChipRecord}
 use Rattle.cart.specs.ChipState.{chipBytes, fieldQuestions, stateQuestions}
 use Rattle.cart.specs.declared.Cartridge.{Cartridge}
