@@ -108,11 +108,11 @@
  * flag is 1 would not write it, and the save would be lost.
  *
  * WHAT IS PROVED OF STATES. Every later answer, file and state is the same as if no state had been taken and resumed.
- * This holds for every list of these nine calls, refused ones included: gbasave_save_read, gbasave_save_write,
+ * This holds for every list of these ten calls, refused ones included: gbasave_save_read, gbasave_save_write,
  * gbasave_eeprom_begin_dma, gbasave_eeprom_write, gbasave_eeprom_read, gbasave_load_save, gbasave_save_data,
- * gbasave_chip_state and gbasave_take_save_dirty. It holds wherever between the calls states are taken and resumed,
- * also between two bits of a serial command, and however often. It does not cover the changed flag, lists with a byte
- * write to an EEPROM kind, gbasave_import_save, or the restoring of other states. It is also proved that load and
+ * gbasave_import_save, gbasave_chip_state and gbasave_take_save_dirty. It holds wherever between the calls states are
+ * taken and resumed, also between two bits of a serial command, and however often. It does not cover the changed flag,
+ * lists with a byte write to an EEPROM kind, or the restoring of other states. It is also proved that load and
  * restore on the open cartridge of the same image leave the same memory as opening, load and restore, and the same
  * record except for the flag: opening sets it to 0, load and restore keep it.
  */
