@@ -28,8 +28,14 @@
  * refusal the values are 0. Two more answers follow, as if the list ended with these items: the answer of a 09 whose
  * length is that of the save memory, and the answer of a 07. They are the file and the chip record at the end.
  *
+ * WHAT RUNS. A replay does not run the calls of gbasave.h. It runs the functions of the same part that take a record as
+ * a value and return it. Each does what the call of gbasave.h does that is named above: both have contracts over the
+ * same definitions, and from the chip's step down they are the same code. What only the calls of gbasave.h have is not
+ * run: reading a record's 24 bytes, writing them back, and the fast paths.
+ *
  * IT IS PROVED that the output is the same as that of the list without its cuts, wherever the cuts are and however
- * many there are.
+ * many there are. About lists of the calls of gbasave.h themselves, with cuts made of them, the same is a theorem about
+ * their contracts: see STATES in gbasave.h.
  */
 #ifndef GBASAVE_REPLAY_H
 #define GBASAVE_REPLAY_H

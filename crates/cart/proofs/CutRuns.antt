@@ -13,6 +13,7 @@ use Rattle.eeprom.specs.Eeprom.{bitIn}
 use Rattle.cart.specs.ChipState.{chipBytes}
 use Rattle.cart.specs.Record.{State, Outcome, outcome, recordAllowed, fromBytes}
 use Rattle.cart.specs.Calls.{Call, saveWrite, loadSave, saveData, chipState, saveRead, eepromBeginDma, eepromWrite, eepromRead, takeSaveDirty, readSave, writeSave, load, fileOf, exported, questions, accepted, step}
+use Rattle.cart.specs.Resume.{withFlag}
 use Rattle.cart.specs.Cut.{fileLeft, bytesLeft, cut, cuts, Turn, before, run, uncut, CutRuns}
 use Rattle.cart.proofs.Sound.{Sound, record-allowed, memory-fits, opened}
 use Rattle.cart.proofs.Recoverable.{Recoverable, NoByteWrite, recoverable-step, recoverable-fresh}
@@ -82,9 +83,9 @@ step-quiet c d s =
 pub step-same : (c : Call) (d : List ℕ) (s t : State) → quiet s ≡ quiet t → unflagged (step c d s) ≡ unflagged (step c d t)
 step-same c d s t e = sym (step-quiet c d s) ∙ ap (λ (z : State). unflagged (step c d z)) e ∙ step-quiet c d t
 
--- which loses nothing that a cut needs
-pub recoverable-quiet : (image : List ℕ) (s : State) → Recoverable image s → Recoverable image (quiet s)
-recoverable-quiet image s r =
+-- nor does a cut need it
+pub recoverable-flag : (image : List ℕ) (dirty : Bool) (s : State) → Recoverable image s → Recoverable image (withFlag dirty s)
+recoverable-flag image dirty s r =
     record {
       sound = record { lenOk = r .sound .lenOk; memoryOk = r .sound .memoryOk; flashOk = r .sound .flashOk; eepromOk = r .sound .eepromOk };
       lenIs = r .lenIs;
@@ -99,7 +100,7 @@ unfolding cuts
 cuts-kept image memory zero s h r = (refl, r)
 cuts-kept image memory (suc n) s h r =
     let q : cut image memory s ≡ quiet s = cut-quiet image memory s h r in
-    let k : Recoverable image (cut image memory s) = rw q (recoverable-quiet image s r) in
+    let k : Recoverable image (cut image memory s) = rw q (recoverable-flag image false s r) in
     let i = cuts-kept image memory n (cut image memory s) h k in
     (i .0 ∙ ap quiet q, i .1)
 

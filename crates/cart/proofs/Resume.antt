@@ -166,7 +166,7 @@ large-allowed c b h =
     (λ t. lt-ltb (e .count) n (count-kept (e .phase) (e .large) b (e .width) (e .count) (ltb-true (e .count) (countLimit (e .phase) (wOf e)) t)))
     (sym (chip-fields c) ∙ h)
 
-load-allowed : (f : List ℕ) (t : State) → recordAllowed (t .cart) ≡ true → recordAllowed (load t f .cart) ≡ true
+pub load-allowed : (f : List ℕ) (t : State) → recordAllowed (t .cart) ≡ true → recordAllowed (load t f .cart) ≡ true
 unfolding recordAllowed load
 load-allowed f t a =
     let l : Bool = imageLength (t .cart .len) in
@@ -220,7 +220,7 @@ resumed-is image s t r q =
       memory = m i;
     })
 
-open-fresh : (image : List ℕ) → Sound (fresh image) → Open image (fresh image)
+pub open-fresh : (image : List ℕ) → Sound (fresh image) → Open image (fresh image)
 unfolding fresh freshCart
 open-fresh image k =
     record { lenIs = refl; kindIs = refl; allowed = unfold fresh freshCart in record-allowed (fresh image) k; memoryOk = k .memoryOk }

@@ -194,7 +194,7 @@ pub sound-step : (c : Call) (d : List ℕ) (s : State) → Sound s → Sound (st
 sound-step c d s k = step-by sound-keeps c d s k
 
 -- an accepted opening
-pub opened-yes : (image memory : List ℕ) → fromBytes image memory .refusal ≡ 0 → asked (openQuestions image memory) ≡ 0
+opened-yes : (image memory : List ℕ) → fromBytes image memory .refusal ≡ 0 → asked (openQuestions image memory) ≡ 0
 unfolding fromBytes
 opened-yes image memory =
     let n : ℕ = asked (openQuestions image memory) in

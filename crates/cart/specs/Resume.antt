@@ -1,4 +1,4 @@
--- Resuming without opening again: the file and the 18 bytes of a cut, loaded and restored into a cartridge that is open.
+-- Resuming without opening again: the file and the 18 bytes of a cut, loaded and restored into an open cartridge.
 use mathlib.Core.Path.{_≡_}
 use mathlib.Core.Bool.{Bool, true, false}
 use mathlib.Core.List.{List, List·Memᴰ}
@@ -20,8 +20,8 @@ pub record Open (image : List ℕ) (t : State) : Type 0 where
 abbrev pub withFlag : Bool → State → State
 withFlag dirty s = stateWith s dirty (s .cart .chip) (s .memory)
 
--- after a list as in demand 3, t becomes the state at which the cut was made, and what the cut with its opening gives;
--- t's flag stays
+-- after a list as in demand 3, t becomes the state s at which the cut was made, which is what the cut with its opening
+-- gives; the flag alone stays t's
 abbrev pub Resumes : Type 0
 Resumes =
     (image memory : List ℕ) (list : List Call) (t : State)

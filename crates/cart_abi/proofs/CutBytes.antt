@@ -1,46 +1,55 @@
 -- Demand 3 of the exported calls: what a host holds between them are the machine's states, as bytes. Assumes nothing.
 use mathlib.Core.Path.{_≡_, refl, sym, ap, ap₂, subst, _∙_}
-use mathlib.Core.Bool.{false}
+use mathlib.Core.Bool.{Bool, true, false}
 use mathlib.Core.List.{List, [], _∷_, List·Memᴰ·head, List·Memᴰ·tail}
 use mathlib.Core.Option.{Option, none, some}
-use Prim.Native.Nat.{ℕ, _≤_}
+use Prim.Native.Nat.{ℕ, _-_, _^_, _≤_, _<_}
+use native.Mathlib.Nat.{pow-succ'}
 use native.Mathlib.Omega.{arith}
 use lib.Dec.{eqb}
-use lib.ListN.{length}
-use borrow.Author.Tests.{eqb-true, ne-eqb}
+use lib.ListN.{length, drop, length-drop}
+use lib.Pow.{areBytes}
+use borrow.Author.Tests.{eq-eqb, ne-eqb}
+use Rattle.lists.specs.Lists.{lowValue}
 use Rattle.lists.specs.Questions.{asked}
 use Rattle.lists.proofs.Bools.{split}
 use Rattle.lists.proofs.Parts.{front-of}
-use Rattle.lists.proofs.Questions.{yes-all}
+use Rattle.lists.proofs.Digits.{bytes-drop, byte-lt}
 use Rattle.kind.specs.Kind.{memorySize, usesEeprom, detectSaveType}
 use Rattle.file_sizes.specs.SaveFit.{keptPart}
 use Rattle.cart.specs.declared.Cartridge.{Cartridge}
-use Rattle.cart.specs.Record.{State, Outcome, outcome, recordAllowed, openQuestions, fromBytes}
+use Rattle.cart.specs.ChipState.{chipOf}
+use Rattle.cart.specs.Record.{State, Outcome, recordAllowed, fresh, fromBytes}
 use Rattle.cart.specs.Calls as machine
 use Rattle.cart.specs.Calls.{Call, step, restore, load, fileOf, exported, importQuestions}
 use Rattle.cart.specs.Cut as uncutMachine
+use Rattle.cart.specs.Resume.{Open, withFlag}
 use Rattle.cart.specs.Replies.{state}
-use Rattle.cart.proofs.Sound.{Sound, record-allowed, memory-fits, sound-step, sound-fresh, opened, opened-yes}
+use Rattle.cart.proofs.Sound.{Sound, record-allowed, memory-fits, sound-fresh, opened}
 use Rattle.cart.proofs.Recoverable.{Recoverable, NoByteWrite, recoverable-step, recoverable-fresh}
-use Rattle.cart.proofs.Resume.{Long, file-long, export-accepted, state-accepted, file-left, bytes-left, load-next, acc-lt, quiet, cut-quiet}
-use Rattle.cart.proofs.CutRuns.{unflagged, either-quiet, step-same, recoverable-quiet, left-same}
-use Rattle.c_record.specs.RecordBytes.{recordBytes}
+use Rattle.cart.proofs.Resume.{Long, file-long, export-accepted, state-accepted, file-left, bytes-left, load-allowed, load-next, acc-lt, resumed-is, open-fresh, quiet}
+use Rattle.cart.proofs.CutRuns.{unflagged, either-quiet, step-same, recoverable-flag, left-same}
+use Rattle.c_record.specs.RecordBytes.{recordBytes, cartOf, isRecord, stateOf}
 use Rattle.c_record.specs.AtExit.{AtExit, left, called, plain, valueAt, flagAt, stateAt, exportAt}
-use Rattle.c_record.proofs.RecordBytes.{record-and-bytes}
+use Rattle.c_record.proofs.RecordBytes.{yes, record-and-bytes}
 use Rattle.cart_abi.specs.Host.{ExportedCall, saveRead, saveWrite, eepromBeginDma, eepromWrite, eepromRead, loadSave, saveData, chipState, takeSaveDirty, importSave}
 use Rattle.cart_abi.specs.Host.{Bytes, Found, Made, plainly, valued, filed, stated, flagged, make}
 use Rattle.cart_abi.specs.CutBytes as bytes
-use Rattle.cart_abi.specs.CutBytes.{Buffers, Turn, before, outcomeOf, foundOf, machineRun, callsOf, uncut, NoByteWrites, ExportedCutRuns}
+use Rattle.cart_abi.specs.CutBytes.{Target, anew, inPlace, Buffers, Turn, before, outcomeOf, foundOf, machineRun, callsOf, uncut, NoByteWrites, ExportedCutRuns}
 
 abbrev bytesOf : State → Bytes
 bytesOf s = record { bytes = recordBytes (s .cart); memory = s .memory }
 
--- a call on the bytes of a state's record is the machine's
-at-record : (call : State → Outcome) (d : List ℕ) (s : State) → Sound s → called call d (recordBytes (s .cart)) (s .memory) ≡ left (call s)
+-- a call on the bytes of an allowed record is the machine's
+at-allowed : (call : State → Outcome) (d : List ℕ) (s : State) → recordAllowed (s .cart) ≡ true → s .cart .chip .eeprom .acc < 2 ^ 64
+    → called call d (recordBytes (s .cart)) (s .memory) ≡ left (call s)
 unfolding called
-at-record call d s k =
-    let w = record-and-bytes .written (s .cart) (record-allowed s k) (acc-lt s k) in
+at-allowed call d s a h =
+    let w = record-and-bytes .written (s .cart) a h in
     rw (w .0) (ap (λ (c : Cartridge). left (call (state c (s .memory)))) (w .1))
+
+at-record : (call : State → Outcome) (d : List ℕ) (s : State) → Sound s → called call d (recordBytes (s .cart)) (s .memory) ≡ left (call s)
+at-record call d s k = at-allowed call d s (record-allowed s k) (acc-lt s k)
 
 -- what a host finds, and goes on with
 abbrev seen : Made → Found × Bytes
@@ -114,17 +123,53 @@ way-stands : {image : List ℕ} {call : State → Outcome} → Way image call �
 way-stands {image} (nine c d n) s r = recoverable-step image c d s n r
 way-stands {image} (import f) s r = recoverable-import image f s r
 
--- the calls of a cut
-reloaded-is : (o : Option (List ℕ)) (t : State) → Sound t → bytes.reloaded o (bytesOf t) ≡ bytesOf (uncutMachine.reloaded o t)
-reloaded-is none t k = refl
-reloaded-is (some f) t k = ap (λ (x : AtExit). plainly (plain x) .next) (at-record (step (machine.loadSave f) []) [] t k)
+-- where a host goes on after a cut
+low-lt : (l : List ℕ) → areBytes l ≡ true → lowValue l < 256 ^ length l
+unfolding lowValue
+low-lt [] h = omega arith
+low-lt (b ∷ l) h = omega (arith, pow-succ' 256 (length l), byte-lt (b ∷ l) 0 h, low-lt l (bytes-drop 1 (b ∷ l) h))
 
-sound-reloaded : (o : Option (List ℕ)) (t : State) → Sound t → Sound (uncutMachine.reloaded o t)
-sound-reloaded none t k = k
-sound-reloaded (some f) t k = sound-step (machine.loadSave f) [] t k
+acc-bytes : (r : List ℕ) → areBytes r ≡ true → isRecord r ≡ true → cartOf r .chip .eeprom .acc < 2 ^ 64
+unfolding cartOf chipOf
+acc-bytes r b h =
+    let l : List ℕ = drop 10 (drop 6 r) in
+    let n : length l ≡ 8 = length-drop 10 (drop 6 r) ∙ ap (λ (k : ℕ). k - 10) (length-drop 6 r ∙ ap (λ (k : ℕ). k - 6) (yes r h .sizeOk)) in
+    subst (λ (k : ℕ). lowValue l < 256 ^ k) n (low-lt l (bytes-drop 10 (drop 6 r) (bytes-drop 6 r b)))
 
-restored-is : (b : List ℕ) (t : State) → Sound t → bytes.restored b (bytesOf t) ≡ bytesOf (restore b t .next)
-restored-is b t k = ap (λ (x : AtExit). plainly (plain x) .next) (at-record (restore b) [] t k)
+record Begun (image : List ℕ) (b : Bytes) : Type 0 where
+  at : State
+  is : b ≡ bytesOf at
+  isOpen : Open image at
+  accOk : at .cart .chip .eeprom .acc < 2 ^ 64
+
+begun-is : (image : List ℕ) (y : Target image) → Begun image (bytes.begun y)
+begun-is image (anew m h) =
+    let k = sound-fresh image m h in
+    record { at = fresh image; is = ap (λ (o : Outcome). bytesOf (o .next)) (opened image m h); isOpen = open-fresh image k; accOk = acc-lt (fresh image) k }
+begun-is image (inPlace b o) =
+    let y = record-and-bytes .read (b .bytes) (o .bytesOk) (o .valid) in
+    record {
+      at = stateOf (b .bytes) (b .memory);
+      is = λ i. record { bytes = sym (y .1) i; memory = b .memory };
+      isOpen = o .isOpen;
+      accOk = acc-bytes (b .bytes) (o .bytesOk) (o .valid);
+    }
+
+module _ (t : State) (a : recordAllowed (t .cart) ≡ true) (b : eqb (length (t .memory)) (memorySize (t .cart .kind)) ≡ true) (c : t .cart .chip .eeprom .acc < 2 ^ 64) where
+  reloaded-is : (o : Option (List ℕ)) → bytes.reloaded o (bytesOf t) ≡ bytesOf (uncutMachine.reloaded o t)
+  reloaded-is none = refl
+  reloaded-is (some f) = ap (λ (x : AtExit). plainly (plain x) .next) (at-allowed (step (machine.loadSave f) []) [] t a c)
+
+  reloaded-kept : (o : Option (List ℕ))
+      → (recordAllowed (uncutMachine.reloaded o t .cart) ≡ true) × (uncutMachine.reloaded o t .cart .chip .eeprom .acc < 2 ^ 64)
+  unfolding load
+  reloaded-kept none = (a, c)
+  reloaded-kept (some f) =
+      let n = load-next f t a b in
+      (ap (λ (z : State). recordAllowed (z .cart)) n ∙ load-allowed f t a, subst (λ (z : State). z .cart .chip .eeprom .acc < 2 ^ 64) (sym n) c)
+
+restored-is : (b : List ℕ) (t : State) → recordAllowed (t .cart) ≡ true → t .cart .chip .eeprom .acc < 2 ^ 64 → bytes.restored b (bytesOf t) ≡ bytesOf (restore b t .next)
+restored-is b t a c = ap (λ (x : AtExit). plainly (plain x) .next) (at-allowed (restore b) [] t a c)
 
 file-in : (f : Option (List ℕ)) (d : List ℕ) (p : ℕ) (s : State) → Long f
     → let e = exportAt p (left (exported f d s)) in bytes.fileIn (e .4) (e .3) ≡ f
@@ -135,8 +180,6 @@ file-in (some f) d p s h = rw (ne-eqb (length f) 0 h) (ap some (front-of f d))
 module _ (image : List ℕ) (x : Buffers image) (s : State) (r : Recoverable image s) where
   holds-file : length (s .memory) ≤ length (x .destination)
   holds-file =
-      let y = yes-all (openQuestions image (x .memory)) refl (opened-yes image (x .memory) (x .reopens)) in
-      let m : length (x .memory) ≡ memorySize (detectSaveType image) = eqb-true _ _ (y .1 .0) in
       let n : length (s .memory) ≡ memorySize (detectSaveType image) = r .sound .memoryOk ∙ ap memorySize (r .kindIs) in
       omega (arith, x .holds)
 
@@ -157,18 +200,25 @@ module _ (image : List ℕ) (x : Buffers image) (s : State) (r : Recoverable ima
       ap (λ (y : AtExit). stateAt (x .state) y .3) (at-record (step machine.chipState []) [] s k ∙ ap left (state-accepted s (record-allowed s k)))
       ∙ sym (bytes-left s (record-allowed s k))
 
-  cut-is : bytes.cut image x (bytesOf s) ≡ bytesOf (quiet s)
-  unfolding bytes.cut uncutMachine.cut
+  -- the flag that the cartridge has in which the host goes on
+  abbrev flag : Bool
+  flag = begun-is image (x .target) .at .cart .dirty
+
+  cut-is : bytes.cut image x (bytesOf s) ≡ bytesOf (withFlag flag s)
+  unfolding bytes.cut
   cut-is =
-      let m : List ℕ = x .memory in
-      let t : State = fromBytes image m .next in
-      let k : Sound t = rw (opened image m (x .reopens)) (sound-fresh image m (x .reopens)) in
+      let y = begun-is image (x .target) in
+      let t : State = y .at in
+      let a = y .isOpen .allowed in
+      let m = eq-eqb _ _ (y .isOpen .memoryOk) in
       let f : Option (List ℕ) = uncutMachine.fileLeft s in
       let b : List ℕ = uncutMachine.bytesLeft s in
-      ap₂ (λ (l : List ℕ) (o : Option (List ℕ)). bytes.restored l (bytes.reloaded o (bytesOf t))) state-is file-is
-      ∙ ap (bytes.restored b) (reloaded-is f t k)
-      ∙ restored-is b (uncutMachine.reloaded f t) (sound-reloaded f t k)
-      ∙ ap bytesOf (cut-quiet image m s (x .reopens) r)
+      let k = reloaded-kept t a m (y .accOk) f in
+      ap₂ (λ (l : List ℕ) (o : Option (List ℕ)). bytes.restored l (bytes.reloaded o (bytes.begun (x .target)))) state-is file-is
+      ∙ ap (λ (z : Bytes). bytes.restored b (bytes.reloaded f z)) (y .is)
+      ∙ ap (bytes.restored b) (reloaded-is t a m (y .accOk) f)
+      ∙ restored-is b (uncutMachine.reloaded f t) (k .0) (k .1)
+      ∙ ap bytesOf (resumed-is image s t r (y .isOpen))
 
 -- cuts, one after the other: the bytes of a state that differs from s in the flag alone
 record After (image : List ℕ) (b : Bytes) (s : State) : Type 0 where
@@ -181,7 +231,7 @@ cuts-are : (image : List ℕ) (xs : List (Buffers image)) (s : State) → Recove
 unfolding bytes.cuts
 cuts-are image [] s r = record { at = s; is = refl; alike = refl; stands = r }
 cuts-are image (x ∷ xs) s r =
-    let i = cuts-are image xs (quiet s) (recoverable-quiet image s r) in
+    let i = cuts-are image xs (withFlag (flag image x s r) s) (recoverable-flag image (flag image x s r) s r) in
     record { at = i .at; is = ap (bytes.cuts image xs) (cut-is image x s r) ∙ i .is; alike = i .alike; stands = i .stands }
 
 -- the host goes through the list with its cuts from s, the machine without from t
@@ -208,23 +258,32 @@ runs-are image (x ∷ list) end s t n q r u =
     ap (λ (m : Found × Bytes). before (m .0) (bytes.run image list end (bytes.cuts image (x .cutsBehind) (m .1)))) (make-is c s (r .sound))
     ∙ (λ j. before (f j) (i j))
 
-with-cuts : (image memory : List ℕ) (list : List (Turn image)) (end : Buffers image) → fromBytes image memory .refusal ≡ 0 → NoByteWrites image (callsOf list)
-    → bytes.run image list end (bytes.opened image memory) ≡ machineRun (callsOf list) (fromBytes image memory .next)
-with-cuts image memory list end h n =
+with-cuts : (image memory : List ℕ) (xs : List (Buffers image)) (list : List (Turn image)) (end : Buffers image)
+    → fromBytes image memory .refusal ≡ 0 → NoByteWrites image (callsOf list)
+    → bytes.run image list end (bytes.cuts image xs (bytes.opened image memory)) ≡ machineRun (callsOf list) (fromBytes image memory .next)
+with-cuts image memory xs list end h n =
     let s : State = fromBytes image memory .next in
     let r : Recoverable image s = rw (opened image memory h) (recoverable-fresh image memory h) in
-    runs-are image list end s s n refl r r
+    let a = cuts-are image xs s r in
+    ap (bytes.run image list end) (a .is) ∙ runs-are image list end (a .at) s n (a .alike) (a .stands) r
 
 calls-uncut : {image : List ℕ} (list : List (Turn image)) → callsOf (uncut list) ≡ callsOf list
 calls-uncut [] = refl
 calls-uncut (x ∷ list) = ap (λ (l : List ExportedCall). x .call ∷ l) (calls-uncut list)
 
+without-cuts : (image memory : List ℕ) (list : List (Turn image)) (end : Buffers image)
+    → fromBytes image memory .refusal ≡ 0 → NoByteWrites image (callsOf list)
+    → bytes.run image (uncut list) end (bytes.opened image memory) ≡ machineRun (callsOf list) (fromBytes image memory .next)
+unfolding bytes.cuts
+without-cuts image memory list end h n =
+    let e = calls-uncut list in
+    with-cuts image memory [] (uncut list) end h (subst (NoByteWrites image) (sym e) n)
+    ∙ ap (λ (l : List ExportedCall). machineRun l (fromBytes image memory .next)) e
+
 pub exported-cut-runs : ExportedCutRuns
 exported-cut-runs =
     record {
-      machine = with-cuts;
-      uncut = λ image memory list end h n.
-          let e = calls-uncut list in
-          with-cuts image memory list end h n
-          ∙ sym (with-cuts image memory (uncut list) end h (subst (NoByteWrites image) (sym e) n) ∙ ap (λ (l : List ExportedCall). machineRun l (fromBytes image memory .next)) e);
+      asMachine = with-cuts;
+      asUncut = λ image memory xs list end h n.
+          with-cuts image memory xs list end h n ∙ sym (without-cuts image memory list end h n);
     }

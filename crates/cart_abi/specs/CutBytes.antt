@@ -1,32 +1,53 @@
 -- Cut runs of the exported calls. Document 01, "Cut runs", and demand 3, of a record's bytes and a memory.
 use mathlib.Core.Path.{_≡_}
-use mathlib.Core.Bool.{false, cond}
+use mathlib.Core.Bool.{true, false, cond}
 use mathlib.Core.List.{List, [], _∷_, map, List·Memᴰ}
 use mathlib.Core.Option.{Option, none, some}
 use Prim.Native.Nat.{ℕ, _≤_}
 use lib.Dec.{eqb}
 use lib.ListN.{length, take}
+use lib.Pow.{areBytes}
 use Rattle.out_params.specs.Places.{placed}
-use Rattle.kind.specs.Kind.{usesEeprom, detectSaveType}
+use Rattle.kind.specs.Kind.{memorySize, usesEeprom, detectSaveType}
 use Rattle.cart.specs.Record.{State, Outcome, fromBytes}
 use Rattle.cart.specs.Calls as machine
 use Rattle.cart.specs.Calls.{step}
 use Rattle.cart.specs.Cut.{fileLeft as machineFile, bytesLeft as machineState}
+use Rattle.cart.specs.Resume.{Open}
 use Rattle.cart.specs.Replies.{first}
+use Rattle.c_record.specs.RecordBytes.{isRecord, stateOf}
 use Rattle.c_record.specs.Calls.{opens, loads, exports, givesState, restores}
 use Rattle.cart_abi.specs.Host.{ExportedCall, saveRead, saveWrite, eepromBeginDma, eepromWrite, eepromRead}
 use Rattle.cart_abi.specs.Host.{loadSave, saveData, chipState, takeSaveDirty, importSave}
 use Rattle.cart_abi.specs.Host.{Bytes, Found, found, plainly, make}
 
--- what a host passes to the calls of a cut, whatever it holds: a destination as long as the memory at least, places for
--- the file's length and for the state, and a memory with which the image opens
+-- a valid record's bytes and a memory that are a cartridge of the image, whatever its chip, memory and flag hold
+pub record OpenBytes (image : List ℕ) (b : Bytes) : Type 0 where
+  pub bytesOk : areBytes (b .bytes) ≡ true
+  pub valid : isRecord (b .bytes) ≡ true
+  pub isOpen : Open image (stateOf (b .bytes) (b .memory))
+
+-- where a host goes on after a cut: "open the same image", with a memory; or, without an opening, in a cartridge of
+-- the image that is open
+pub data Target (image : List ℕ) : Type 0 where
+  anew : (memory : List ℕ) → opens image memory .0 ≡ 0 → Target image
+  inPlace : (b : Bytes) → OpenBytes image b → Target image
+
+abbrev pub opened : List ℕ → List ℕ → Bytes
+opened image memory = plainly (opens image memory) .next
+
+abbrev pub begun : {image : List ℕ} → Target image → Bytes
+begun {image} (anew memory h) = opened image memory
+begun (inPlace b h) = b
+
+-- what a host has for a cut: a destination as long as the kind's memory at least, places for the file's length and for
+-- the state, whatever they hold, and where it goes on
 pub record Buffers (image : List ℕ) : Type 0 where
   pub destination : List ℕ
   pub fileLength : ℕ
   pub state : List ℕ
-  pub memory : List ℕ
-  pub reopens : opens image memory .0 ≡ 0
-  pub holds : length memory ≤ length destination
+  pub target : Target image
+  pub holds : memorySize (detectSaveType image) ≤ length destination
 
 -- "it leaves the file that an accepted export gives there, where the kind has one": a length of 0 says that it has none
 abbrev pub fileIn : ℕ → List ℕ → Option (List ℕ)
@@ -39,10 +60,7 @@ fileLeft x b = let e = exports (x .destination) (b .bytes) (b .memory) (x .fileL
 unfoldable pub stateLeft : {image : List ℕ} → Buffers image → Bytes → List ℕ
 stateLeft x b = givesState (b .bytes) (b .memory) (x .state) .3
 
--- "Then: open the same image, load the file where there is one, restore."
-abbrev pub opened : List ℕ → List ℕ → Bytes
-opened image memory = plainly (opens image memory) .next
-
+-- "load the file where there is one, restore"
 abbrev pub reloaded : Option (List ℕ) → Bytes → Bytes
 reloaded none b = b
 reloaded (some f) b = plainly (loads f (b .bytes) (b .memory)) .next
@@ -51,7 +69,7 @@ abbrev pub restored : List ℕ → Bytes → Bytes
 restored state b = plainly (restores state (b .bytes) (b .memory)) .next
 
 unfoldable pub cut : (image : List ℕ) → Buffers image → Bytes → Bytes
-cut image x b = restored (stateLeft x b) (reloaded (fileLeft x b) (opened image (x .memory)))
+cut image x b = restored (stateLeft x b) (reloaded (fileLeft x b) (begun (x .target)))
 
 unfoldable pub cuts : (image : List ℕ) → List (Buffers image) → Bytes → Bytes
 cuts image [] b = b
@@ -124,12 +142,16 @@ abbrev pub NoByteWrites : List ℕ → List ExportedCall → Type 0
 NoByteWrites image list =
     (address value : ℕ) → List·Memᴰ (saveWrite address value) list → usesEeprom (detectSaveType image) ≡ false
 
--- demand 3 of the exported calls: from what an accepted opening leaves, a list with its cuts shows what document 01's
--- machine shows uncut, and so what the list shows without its cuts
+-- demand 3 of the exported calls: after an accepted opening and any cuts, a list with its cuts shows what document
+-- 01's machine shows uncut, and so what the list shows without its cuts
 pub record ExportedCutRuns : Type 0 where
-  pub machine : (image memory : List ℕ) (list : List (Turn image)) (end : Buffers image)
+  pub asMachine : (image memory : List ℕ) (atFirst : List (Buffers image))
+      → (list : List (Turn image)) (end : Buffers image)
       → opens image memory .0 ≡ 0 → NoByteWrites image (callsOf list)
-      → run image list end (opened image memory) ≡ machineRun (callsOf list) (fromBytes image memory .next)
-  pub uncut : (image memory : List ℕ) (list : List (Turn image)) (end : Buffers image)
+      → run image list end (cuts image atFirst (opened image memory))
+      ≡ machineRun (callsOf list) (fromBytes image memory .next)
+  pub asUncut : (image memory : List ℕ) (atFirst : List (Buffers image))
+      → (list : List (Turn image)) (end : Buffers image)
       → opens image memory .0 ≡ 0 → NoByteWrites image (callsOf list)
-      → run image list end (opened image memory) ≡ run image (uncut list) end (opened image memory)
+      → run image list end (cuts image atFirst (opened image memory))
+      ≡ run image (uncut list) end (opened image memory)

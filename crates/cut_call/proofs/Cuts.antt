@@ -1,25 +1,21 @@
 -- What the calls of a cut leave. Assumes nothing.
 use mathlib.Core.Path.{_≡_, refl, sym, ap, _∙_}
-use mathlib.Core.Logic.{_≢_}
 use mathlib.Core.Bool.{true}
 use mathlib.Core.List.{List, [], _++_}
 use mathlib.Core.Option.{Option, none, some}
 use Prim.Native.Nat.{ℕ, _≤_}
 use native.Mathlib.Omega.{arith}
 use lib.Dec.{eqb}
-use lib.ListN.{length, take, length-take}
+use lib.ListN.{length, take}
 use lib.Seq.{length-take-le, take-append-le}
 use borrow.Author.Tests.{eq-eqb, ne-eqb, leb-true}
-use Rattle.lists.proofs.Bools.{split}
 use Rattle.lists.proofs.Parts.{front-of, length-into}
-use Rattle.kind.specs.declared.SaveType.{SaveType}
-use Rattle.kind.specs.declared.SaveType.the-variants.{None, Sram, Flash64, Flash128, Eeprom512, Eeprom8k}
 use Rattle.kind.specs.Kind.{memorySize}
 use Rattle.cart.specs.declared.Cartridge.{Cartridge}
 use Rattle.cart.specs.declared.Reply.{Reply}
 use Rattle.cart.specs.ChipState.{chipBytes}
 use Rattle.cart.specs.Record.{State, Outcome, recordAllowed}
-use Rattle.cart.specs.Calls.{saveData, chipState, fileOf, eepromFile, holds, exported, step}
+use Rattle.cart.specs.Calls.{saveData, chipState, fileOf, holds, exported, step}
 use Rattle.cart.specs.Cut.{fileLeft, bytesLeft, reloaded}
 use Rattle.cart.specs.Replies.{state, first, exportReplied}
 use Rattle.cart.proofs.Resume.{file-fits, export-accepted, state-accepted, file-left, bytes-left, Long, file-long}

@@ -15,7 +15,7 @@ use Rattle.cart.specs.Calls.{Call, saveRead, saveWrite, eepromBeginDma, eepromW
 use Rattle.cart.specs.Cut.{cut}
 use Rattle.cart.proofs.Recoverable.{Recoverable, NoByteWrite, recoverable-step, recoverable-fresh}
 use Rattle.cart.proofs.Resume.{quiet, cut-quiet}
-use Rattle.cart.proofs.CutRuns.{unflagged, step-same, recoverable-quiet}
+use Rattle.cart.proofs.CutRuns.{unflagged, step-same, recoverable-flag}
 use Rattle.call_list.specs.declared.Item.{Item}
 use Rattle.call_list.specs.declared.Item.the-variants.{SaveRead, SaveWrite, EepromRead, EepromWrite, BeginDma, TakeFlag, ChipState, LoadSave, SaveData, Cut, Bad}
 use Rattle.call_list.specs.Items.{isWrite}
@@ -82,7 +82,7 @@ module _ (image : List ℕ) (s t : State) (e : quiet s ≡ quiet t) (r : Recover
   plays-same (SaveData n) l w = alike (called (λ o. fileAnswer o .bytes) saveData (replicate n 0) refl (λ o. refl))
   plays-same Cut l w =
       let q : cut image (s .memory) s ≡ quiet s = cut-quiet image (s .memory) s (opens image s r) r in
-      record { bytesSame = refl; stillSame = ap quiet q ∙ e; stillStands = rw q (recoverable-quiet image s r) }
+      record { bytesSame = refl; stillSame = ap quiet q ∙ e; stillStands = rw q (recoverable-flag image false s r) }
   plays-same Bad l w = record { bytesSame = refl; stillSame = e; stillStands = r }
 
   pub ends-same : ending s ≡ ending t
