@@ -64,3 +64,23 @@ pub fn eeprom_write_lent(
     *chip = next.chip;
     next.reply
 }
+
+// The same by a loan: the thin call on a copy of the chip record.
+pub fn eeprom_write_copy(
+    chip: ChipRecord,
+    len: usize,
+    kind: SaveType,
+    dirty: bool,
+    memory: &mut [u8],
+    value: u16,
+) -> ChipReply
+    ensures { λ r. ⌜ (r .reply, r .chip, now (memory .exit))
+        ≡ apart (plainCall len kind dirty chip (now (memory .entry)) value) ⌝ }
+{
+    let mut copy = chip;
+    let reply = eeprom_write_lent(&mut copy, len, kind, dirty, memory, value);
+    ChipReply {
+        chip: copy,
+        reply: reply,
+    }
+}
