@@ -1,7 +1,7 @@
 // The calls on an image, or on a kind's number.
 ghost use mathlib.Core.Path.{_≡_};
-ghost use Rattle.out_params.specs.Places.{told, answeredAt, kindAnswer, titleAt};
-ghost use Rattle.out_params.specs.Places.{fitAnswer, memorySizeAnswer, sizeAnswer};
+ghost use Rattle.out_params.specs.Places.{answeredAt, kindAnswer, titleAt, fitAnswer, memorySizeAnswer, sizeAnswer};
+ghost use Rattle.out_params.specs.Places.{told};
 ghost use Rattle.image.specs.Image.{read as read·spec, headerChecksum};
 ghost use Rattle.title.specs.Title.{headerTitle};
 ghost use Rattle.crc.specs.Crc.{romCrc};

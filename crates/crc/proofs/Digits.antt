@@ -34,7 +34,7 @@ digit-lt i b h =
     rw (pow-suc 2 i)
     (bit-cases (λ (u : ℕ). 2 ^ i * u < 2 ^ i * 2) b h (omega (arith, pow-pos i)) (omega (arith, pow-pos i)))
 
-pub picks : (n k i c : ℕ) → c < 2 ^ k → picked (advanced n k i) c ≡ crcBits n (c * 2 ^ i)
+picks : (n k i c : ℕ) → c < 2 ^ k → picked (advanced n k i) c ≡ crcBits n (c * 2 ^ i)
 unfolding picked advanced
 picks n zero i c h =
     let e : c * 2 ^ i ≡ 0 * 2 ^ i = ap (λ (x : ℕ). x * 2 ^ i) (omega arith) in

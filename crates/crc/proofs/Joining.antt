@@ -12,7 +12,7 @@ use lib.Seq.{length-take-le, take-all}
 use borrow.Author.Tests.{leb-true}
 use Rattle.lists.specs.Lists.{fold}
 use Rattle.crc.specs.Crc.{crcBits, crcByte}
-use Rattle.crc.specs.declared.Registers.{Registers}
+use Rattle.crc.specs.declared.lanes.Registers.{Registers}
 use Rattle.crc.specs.Lanes.{lane, laneEnds}
 use Rattle.crc.proofs.Polynomial.{xor-assoc, bits-xor}
 use Rattle.crc.proofs.Doubling.{bits-add}

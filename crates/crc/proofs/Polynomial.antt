@@ -108,5 +108,6 @@ entry (x ∷ table) i (suc k) t h =
     rw (add-suc, ← suc-add) (entry table (suc i) k (and-right (eqb x (crcBits 8 i)) (isTable (suc i) table) t) (omega arith))
 
 -- eight bits by the table
-pub by-table : (table : List ℕ) (v : ℕ) → isTable 0 table ≡ true → bitXor (getD table (v % 256) 0) (v / 256) ≡ crcBits 8 v
+pub by-table : (table : List ℕ) (v : ℕ) → isTable 0 table ≡ true
+    → bitXor (getD table (v % 256) 0) (v / 256) ≡ crcBits 8 v
 by-table table v t = sym (eight-bits v ∙ rw (entry table 0 (v % 256) t (omega arith), zero-add))

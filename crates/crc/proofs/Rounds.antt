@@ -10,7 +10,7 @@ use lib.Seq.{drop-drop}
 use Rattle.lists.specs.Lists.{fold}
 use Rattle.lists.proofs.Parts.{spells}
 use Rattle.crc.specs.Crc.{crcBits, crcByte}
-use Rattle.crc.specs.declared.Registers.{Registers}
+use Rattle.crc.specs.declared.lanes.Registers.{Registers}
 use Rattle.crc.specs.Lanes.{lane, laneEnds, started, wordAt, wordsIn, bytesOut}
 use Rattle.crc.proofs.Folds.{fold-take}
 use Rattle.crc.proofs.Polynomial.{xor-assoc, bits-xor, bits-zero}

@@ -4,7 +4,7 @@ use Prim.Native.Nat.{ℕ, _+_, _*_}
 use lib.Bits.{bitXor}
 use lib.ListN.{getD, take, drop}
 use Rattle.lists.specs.Lists.{fold}
-use Rattle.crc.specs.declared.Registers.{Registers}
+use Rattle.crc.specs.declared.lanes.Registers.{Registers}
 use Rattle.crc.specs.Crc.{crcBits, crcByte}
 
 -- four bytes, the lowest first, as one number

@@ -1,6 +1,5 @@
 // A block of 32,768 bytes in eight lanes of 4,096. No lane waits for another; a round over all of them takes four bytes
 // of each.
-use crate::Registers;
 use crate::table::byte_out;
 use crate::words::word_at;
 ghost use mathlib.Core.Bool.{true};
@@ -9,6 +8,17 @@ ghost use Prim.Native.Nat.{_+_, _≤_};
 ghost use lib.ListN.{length};
 ghost use Rattle.crc.specs.Crc.{isTable};
 ghost use Rattle.crc.specs.Lanes.{started as started·spec, wordsIn, bytesOut, laneEnds};
+
+pub struct Registers {
+    pub r0: u32,
+    pub r1: u32,
+    pub r2: u32,
+    pub r3: u32,
+    pub r4: u32,
+    pub r5: u32,
+    pub r6: u32,
+    pub r7: u32,
+}
 
 // The first lane continues from `c`, the others begin at 0.
 fn started(c: u32) -> Registers

@@ -14,18 +14,6 @@ pub use pieces::crc_start;
 ghost use mathlib.Core.Path.{_≡_};
 ghost use Rattle.crc.specs.Crc.{crc32 as crc32·spec, romCrc};
 
-// The registers of eight lanes.
-struct Registers {
-    r0: u32,
-    r1: u32,
-    r2: u32,
-    r3: u32,
-    r4: u32,
-    r5: u32,
-    r6: u32,
-    r7: u32,
-}
-
 pub fn crc32(s: &[u8]) -> u32
     ensures { λ r. ⌜ r ≡ crc32·spec (now (s .entry)) ⌝ }
 {
