@@ -23,6 +23,7 @@ use Rattle.cart_abi.proofs.Refused.{refused-leaves}
 use Rattle.cart_abi.proofs.CutBytes.{exported-cut-runs}
 use Rattle.carttrace_lib.proofs.Whole.{whole, pieces}
 use Rattle.carttrace_lib.proofs.Ends.{ends}
+use Rattle.cuttrace_lib.proofs.Settles.{settles}
 use Rattle.claims.specs.Claims.{Claims}
 
 pub claims : Claims
@@ -58,5 +59,5 @@ claims =
         titleFits = title-fits;
         crcPieces = crc.pieces;
       };
-      carttrace = record { whole = whole; pieces = pieces; ends = ends };
+      programs = record { whole = whole; pieces = pieces; ends = ends; settles = settles };
     }

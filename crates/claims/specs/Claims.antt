@@ -25,6 +25,7 @@ use Rattle.c_record.specs.Claims.{RecordAndBytes}
 use Rattle.cart_abi.specs.Claims.{RefusedLeaves}
 use Rattle.cart_abi.specs.CutBytes.{ExportedCutRuns}
 use Rattle.carttrace_lib.specs.Claims.{Whole, Pieces, Ends}
+use Rattle.cuttrace_lib.specs.Claims.{Settles}
 
 -- demand 1: a refusal is the first number that applies, and leaves everything
 pub record Refusals : Type 0 where
@@ -64,15 +65,16 @@ pub record Others : Type 0 where
   pub titleFits : TitleFits
   pub crcPieces : crc.Pieces
 
--- `carttrace`
-pub record Carttrace : Type 0 where
+-- `carttrace` and `cuttrace`
+pub record Programs : Type 0 where
   pub whole : Whole
   pub pieces : Pieces
   pub ends : Ends
+  pub settles : Settles
 
 pub record Claims : Type 0 where
   pub refusals : Refusals
   pub gbatek : Gbatek
   pub cuts : Cuts
   pub others : Others
-  pub carttrace : Carttrace
+  pub programs : Programs
