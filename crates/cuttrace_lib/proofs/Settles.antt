@@ -1,6 +1,6 @@
 -- A trace that is settled is refused, whatever follows. Assumes nothing.
 use mathlib.Core.Path.{_≡_, refl, sym, ap, _∙_}
-use mathlib.Core.Bool.{true, false, _||_, true≢false}
+use mathlib.Core.Bool.{true, false, true≢false}
 use mathlib.Core.List.{List, [], _∷_, _++_, append-nil, append-assoc}
 use mathlib.Core.Option.{Option, none, some}
 use Prim.Native.Nat.{ℕ, suc, _+_, _≤_, _<_}
@@ -50,8 +50,8 @@ no-kind line h = numbered-none (length line) (numberFrom 0 line) h
 first-of : List ℕ → FirstLine
 first-of text = firstLine (take (lineLength text) text)
 
-line-two : (text : List ℕ) → length (take (lineLength text) text) ≡ lineLength text
-line-two text = length-take-le (lineLength text) text (line-within text)
+line-whole : (text : List ℕ) → length (take (lineLength text) text) ≡ lineLength text
+line-whole text = length-take-le (lineLength text) text (line-within text)
 
 -- by its first line
 by-first : (text memory scratch answers : List ℕ) → 0 < length text
@@ -67,6 +67,10 @@ long-first : (f : FirstLine) (text memory scratch answers : List ℕ) → longes
 long-first NoKind text memory scratch answers h e k = absurd (true≢false k)
 long-first (Fresh kind) text memory scratch answers h e k =
     by-first text memory scratch answers (omega (arith, h)) ∙ rw e (too-long kind (length text) _ memory scratch answers h)
+
+none-first : (f : FirstLine) → isNoKind f ≡ true → f ≡ NoKind
+none-first NoKind k = refl
+none-first (Fresh kind) k = absurd (true≢false (sym k))
 
 module _ (text more memory scratch answers : List ℕ) where
   abbrev n : ℕ
@@ -88,7 +92,7 @@ module _ (text more memory scratch answers : List ℕ) where
   longer-same e h =
       let w = line-within text in
       bad-first (text ++ more) memory scratch answers (simp length-append (omega (arith, h, w)))
-      (no-kind (take (lineLength (text ++ more)) (text ++ more)) (λ z. omega (arith, z, h, line-two (text ++ more), line-longer text more)))
+      (no-kind (take (lineLength (text ++ more)) (text ++ more)) (λ z. omega (arith, z, h, line-whole (text ++ more), line-longer text more)))
       ∙ sym (bad-first text memory scratch answers (omega (arith, h, w)) e)
 
   -- or the trace is too long; a line 1 that is a kind has then ended
@@ -97,13 +101,9 @@ module _ (text more memory scratch answers : List ℕ) where
   long-same k h =
       let t : n < length text =
       cases (ltb n (length text)) (λ z. ltb-true n (length text) z)
-      (λ z. absurd (true≢false (sym (ap isNoKind (no-kind (take n text) (λ y. omega (arith, y, h, line-two text, ltb-false n (length text) z)))) ∙ k))) in
+      (λ z. absurd (true≢false (sym (ap isNoKind (no-kind (take n text) (λ y. omega (arith, y, h, line-whole text, ltb-false n (length text) z)))) ∙ k))) in
       long-first _ (text ++ more) memory scratch answers (simp length-append (omega (arith, h))) (ap firstLine (same-line text more t)) k
       ∙ sym (long-first _ text memory scratch answers h refl k)
-
-  none-first : (f : FirstLine) → isNoKind f ≡ true → f ≡ NoKind
-  none-first NoKind k = refl
-  none-first (Fresh kind) k = absurd (true≢false (sym k))
 
   nothing-more : settled text ≡ true → Same
   unfolding settled first-of

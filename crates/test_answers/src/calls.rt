@@ -18,6 +18,7 @@ use cart::STATE_SIZE;
 use cart::fresh_cart;
 use carttrace_lib::Played;
 use carttrace_lib::play;
+use chip_by_reference::eeprom_write_copy;
 use crc::crc32;
 use file_calls::load_save;
 use file_calls::save_data;
@@ -66,8 +67,22 @@ fn line_of(frame: &[u8]) -> Line {
     l
 }
 
-fn is_bad(frame: Frame) -> bool {
-    if let Frame::Bad = frame { true } else { false }
+// 04: the serial bit in by the thin call, on a chip record passed by reference.
+fn bit_in(value: u16, cart: Cartridge, memory: &mut [u8], out: &mut [u8]) -> Played
+    requires { ⌜ 256 ≤ length (now out) ⌝ }
+{
+    let kind = cart.kind;
+    let chip = cart.chip;
+    let r = eeprom_write_copy(chip, cart.len, kind, cart.dirty, memory, value);
+    let after = r.chip;
+    let reply = r.reply;
+    let next = Cartridge {
+        len: cart.len,
+        kind: kind,
+        dirty: reply.dirty,
+        chip: after,
+    };
+    played(next, print_line(out, reply.refusal, b""))
 }
 
 // 01 to 07.
@@ -75,10 +90,11 @@ fn trace_frame(text: &[u8], cart: Cartridge, memory: &mut [u8], out: &mut [u8]) 
     requires { ⌜ 256 ≤ length (now out) ⌝ }
 {
     let frame = frame_in(line_of(text));
-    if is_bad(frame) {
-        return no_answer(cart);
+    match frame {
+        Frame::Bad => no_answer(cart),
+        Frame::EepromWrite(value) => bit_in(value, cart, memory, out),
+        _ => play(frame, cart, memory, out),
     }
-    play(frame, cart, memory, out)
 }
 
 fn load_made(
