@@ -76,26 +76,6 @@ pub bytes-left : (s : State) → recordAllowed (s .cart) ≡ true → bytesLeft 
 unfolding bytesLeft
 bytes-left s a = ap (λ (o : Outcome). o .given) (state-accepted s a)
 
--- a file has bytes
-unfoldable pub Long : Option (List ℕ) → Type 0
-Long none = Unit
-Long (some f) = length f ≢ 0
-
-eeprom-long : (s : State) → length (s .memory) ≡ 8192 → length (eepromFile s) ≢ 0
-eeprom-long s e =
-    split (λ (k : ℕ). length (take k (s .memory)) ≢ 0) (s .cart .chip .eeprom .large)
-    (λ l z. omega (arith, length-take 8192 (s .memory)))
-    (λ l z. omega (arith, length-take 512 (s .memory)))
-
-pub file-long : (kind : SaveType) (s : State) → length (s .memory) ≡ memorySize kind → Long (fileOf kind s)
-unfolding fileOf Long
-file-long None s e = tt
-file-long Sram s e = λ z. omega arith
-file-long Flash64 s e = λ z. omega arith
-file-long Flash128 s e = λ z. omega arith
-file-long Eeprom512 s e = eeprom-long s e
-file-long Eeprom8k s e = eeprom-long s e
-
 -- the file gives the memory back, whatever the memory m was
 abbrev memoryFrom : List ℕ → Option (List ℕ) → List ℕ
 memoryFrom m none = m
@@ -131,6 +111,26 @@ module _ (image : List ℕ) (s : State) (r : Recoverable image s) (m : List ℕ)
   memory-back Flash128 e l = whole-back 131072 (ap memorySize e) l
   memory-back Eeprom512 e l = serial-back (ap usesEeprom e) (l ∙ ap memorySize (sym e))
   memory-back Eeprom8k e l = serial-back (ap usesEeprom e) (l ∙ ap memorySize (sym e))
+
+-- a file has bytes
+unfoldable pub Long : Option (List ℕ) → Type 0
+Long none = Unit
+Long (some f) = length f ≢ 0
+
+eeprom-long : (s : State) → length (s .memory) ≡ 8192 → length (eepromFile s) ≢ 0
+eeprom-long s e =
+    split (λ (k : ℕ). length (take k (s .memory)) ≢ 0) (s .cart .chip .eeprom .large)
+    (λ l z. omega (arith, length-take 8192 (s .memory)))
+    (λ l z. omega (arith, length-take 512 (s .memory)))
+
+pub file-long : (kind : SaveType) (s : State) → length (s .memory) ≡ memorySize kind → Long (fileOf kind s)
+unfolding fileOf Long
+file-long None s e = tt
+file-long Sram s e = λ z. omega arith
+file-long Flash64 s e = λ z. omega arith
+file-long Flash128 s e = λ z. omega arith
+file-long Eeprom512 s e = eeprom-long s e
+file-long Eeprom8k s e = eeprom-long s e
 
 -- a load leaves a record that is allowed: a chip that it makes large has longer addresses
 wider : (large b : Bool) (width n : ℕ) → n < w width large → n < w width (large || b)
