@@ -2,10 +2,6 @@
 // program reads and writes. It takes the input in pieces, so that input and lines may be of any length.
 
 use carttrace_lib::Session;
-use carttrace_lib::feed;
-use carttrace_lib::finish;
-use carttrace_lib::opened;
-use carttrace_lib::over;
 ghost use mathlib.Core.Path.{_≡_};
 ghost use Prim.Native.Nat.{_≤_};
 ghost use lib.ListN.{length};
@@ -36,13 +32,13 @@ fn piece(session: Session, memory: &mut [u8], out: &mut [u8]) -> Turn
         };
     }
     let n = io::count(got, &input);
-    let t = feed(session, &input[..n], memory, out);
+    let t = carttrace_lib::feed(session, &input[..n], memory, out);
     let len = t.len;
     let next = t.session;
     let written = io::write_all(1, &out[..len]);
     Turn {
         session: next,
-        more: written && !over(next),
+        more: written && !carttrace_lib::over(next),
     }
 }
 
@@ -52,7 +48,7 @@ fn pieces(memory: &mut [u8], out: &mut [u8]) -> Session
     requires { ⌜ 131072 ≤ length (now memory) ⌝ }
     requires { ⌜ 65536 ≤ length (now out) ⌝ }
 {
-    let mut session = opened();
+    let mut session = carttrace_lib::opened();
     let mut turns = u64::MAX;
     while turns > 0 {
         let t = piece(session, memory, out);
@@ -69,7 +65,7 @@ fn run(memory: &mut [u8], out: &mut [u8])
     requires { ⌜ 131072 ≤ length (now memory) ⌝ }
     requires { ⌜ 65536 ≤ length (now out) ⌝ }
 {
-    let t = finish(pieces(memory, out), memory, out);
+    let t = carttrace_lib::finish(pieces(memory, out), memory, out);
     let len = t.len;
     io::write_all(1, &out[..len]);
 }

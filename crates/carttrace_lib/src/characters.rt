@@ -6,18 +6,11 @@ use crate::Told;
 use crate::one_frame::play;
 use crate::one_frame::print_status;
 use cart::Cartridge;
-use cart::fresh_cart;
 use frames::FirstLine;
 use frames::Line;
-use frames::empty_line;
-use frames::first_in;
-use frames::frame_in;
-use frames::push;
 use kind::SaveType;
-use kind::memory_size;
 use memory::NO_FILE;
 use memory::Store;
-use memory::apply;
 ghost use mathlib.Core.Path.{_≡_};
 ghost use Prim.Native.Nat.{_*_, _≤_};
 ghost use lib.ListN.{length};
@@ -48,7 +41,11 @@ fn told_with(session: Session, len: usize) -> Told
 pub fn opened() -> Session
     ensures { λ r. ⌜ r ≡ opened·spec ⌝ }
 {
-    session_with(Stage::First, empty_line(), fresh_cart(0, SaveType::None))
+    session_with(
+        Stage::First,
+        frames::empty_line(),
+        cart::fresh_cart(0, SaveType::None),
+    )
 }
 
 // At the end of line 1.
@@ -60,17 +57,21 @@ fn begin(first: FirstLine, session: Session, memory: &mut [u8], out: &mut [u8]) 
 {
     match first {
         FirstLine::Fresh(kind) => {
-            let n = memory_size(kind);
-            apply(Store::Chip, &NO_FILE, &mut memory[..n]);
+            let n = kind::memory_size(kind);
+            memory::apply(Store::Chip, &NO_FILE, &mut memory[..n]);
             told_with(
-                session_with(Stage::Playing, empty_line(), fresh_cart(192, kind)),
+                session_with(
+                    Stage::Playing,
+                    frames::empty_line(),
+                    cart::fresh_cart(192, kind),
+                ),
                 print_status(out, 0),
             )
         }
         FirstLine::NoKind => {
             let cart = session.cart;
             told_with(
-                session_with(Stage::Over, empty_line(), cart),
+                session_with(Stage::Over, frames::empty_line(), cart),
                 print_status(out, 0xFF),
             )
         }
@@ -87,10 +88,13 @@ fn go_on(session: Session, memory: &mut [u8], out: &mut [u8]) -> Told
     let cart = session.cart;
     let line = session.line;
     let kind = cart.kind;
-    let n = memory_size(kind);
-    let p = play(frame_in(line), cart, &mut memory[..n], out);
+    let n = kind::memory_size(kind);
+    let p = play(frames::frame_in(line), cart, &mut memory[..n], out);
     let next = p.cart;
-    told_with(session_with(Stage::Playing, empty_line(), next), p.len)
+    told_with(
+        session_with(Stage::Playing, frames::empty_line(), next),
+        p.len,
+    )
 }
 
 fn end_line(session: Session, memory: &mut [u8], out: &mut [u8]) -> Told
@@ -102,7 +106,7 @@ fn end_line(session: Session, memory: &mut [u8], out: &mut [u8]) -> Told
     let stage = session.stage;
     let line = session.line;
     match stage {
-        Stage::First => begin(first_in(line), session, memory, out),
+        Stage::First => begin(frames::first_in(line), session, memory, out),
         Stage::Playing => go_on(session, memory, out),
         Stage::Over => told_with(session, 0),
     }
@@ -120,7 +124,7 @@ fn take_in(session: Session, c: u8, memory: &mut [u8], out: &mut [u8]) -> Told
     let stage = session.stage;
     let line = session.line;
     let cart = session.cart;
-    told_with(session_with(stage, push(line, c), cart), 0)
+    told_with(session_with(stage, frames::push(line, c), cart), 0)
 }
 
 // Takes a piece of the input. What it prints goes to the front of the output.

@@ -1,18 +1,10 @@
 // A frame, played as its call, and the answer as a line.
 
 use crate::Played;
-use byte_calls::save_read;
-use byte_calls::save_write;
 use cart::Cartridge;
 use cart::Reply;
 use frames::Frame;
-use frames::print_line;
-use serial_calls::eeprom_begin_dma;
-use serial_calls::eeprom_read;
-use serial_calls::eeprom_write;
 use state_calls::StateAnswer;
-use state_calls::chip_state;
-use state_calls::take_save_dirty;
 ghost use mathlib.Core.Path.{_≡_};
 ghost use mathlib.Core.List.{[]};
 ghost use Prim.Native.Nat.{_≤_};
@@ -28,7 +20,7 @@ pub fn print_status(out: &mut [u8], status: u8) -> usize
     requires { ⌜ 3 ≤ length (now out) ⌝ }
     ensures { λ r. ⌜ (r, now (out .exit)) ≡ written (lineOf status []) (now (out .entry)) ⌝ }
 {
-    print_line(out, status, b"")
+    frames::print_line(out, status, b"")
 }
 
 // 00 and the byte that a call answers, or its refusal.
@@ -40,7 +32,7 @@ fn print_value(out: &mut [u8], reply: Reply) -> usize
         return print_status(out, reply.refusal);
     }
     let one = [(reply.value % 256) as u8];
-    print_line(out, 0, &one)
+    frames::print_line(out, 0, &one)
 }
 
 fn print_state(out: &mut [u8], state: StateAnswer) -> usize
@@ -52,7 +44,7 @@ fn print_state(out: &mut [u8], state: StateAnswer) -> usize
         return print_status(out, state.refusal);
     }
     let bytes = state.bytes;
-    print_line(out, 0, &bytes)
+    frames::print_line(out, 0, &bytes)
 }
 
 fn played_with(cart: Cartridge, len: usize) -> Played
@@ -87,16 +79,22 @@ pub fn play(frame: Frame, cart: Cartridge, memory: &mut [u8], out: &mut [u8]) ->
         ≡ shown (play·spec frame (state cart (now (memory .entry)))) (now (out .entry)) ⌝ }
 {
     match frame {
-        Frame::SaveRead(address) => show_value(save_read(cart, memory, address), out),
+        Frame::SaveRead(address) => show_value(byte_calls::save_read(cart, memory, address), out),
         Frame::SaveWrite(address, value) => show_status(
-            save_write(cart, memory, address, value),
+            byte_calls::save_write(cart, memory, address, value),
             out,
         ),
-        Frame::EepromRead => show_value(eeprom_read(cart, memory), out),
-        Frame::EepromWrite(value) => show_status(eeprom_write(cart, memory, value), out),
-        Frame::BeginDma(words) => show_status(eeprom_begin_dma(cart, words as usize), out),
-        Frame::TakeFlag => show_value(take_save_dirty(cart), out),
-        Frame::ChipState => played_with(cart, print_state(out, chip_state(cart))),
+        Frame::EepromRead => show_value(serial_calls::eeprom_read(cart, memory), out),
+        Frame::EepromWrite(value) => show_status(
+            serial_calls::eeprom_write(cart, memory, value),
+            out,
+        ),
+        Frame::BeginDma(words) => show_status(
+            serial_calls::eeprom_begin_dma(cart, words as usize),
+            out,
+        ),
+        Frame::TakeFlag => show_value(state_calls::take_save_dirty(cart), out),
+        Frame::ChipState => played_with(cart, print_state(out, state_calls::chip_state(cart))),
         Frame::Bad => played_with(cart, print_status(out, 0xFF)),
     }
 }

@@ -3,7 +3,6 @@
 use cart::Cartridge;
 use cart::ChipRecord;
 use kind::SaveType;
-use serial_calls::eeprom_write;
 ghost use mathlib.Core.Path.{_≡_};
 ghost use Rattle.chip_by_reference.specs.Lent.{plainCall, apart};
 
@@ -36,7 +35,7 @@ pub fn eeprom_write_chip(
         dirty: dirty,
         chip: chip,
     };
-    let plain = eeprom_write(cart, memory, value);
+    let plain = serial_calls::eeprom_write(cart, memory, value);
     let after = plain.cart;
     let next = after.chip;
     ChipReply {

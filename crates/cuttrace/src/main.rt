@@ -5,22 +5,16 @@
 // an image above 16 MiB, for which there is no room here, so 05 is played as an Eeprom512 whose list begins with a load
 // of 8,192 erased bytes. The load makes the chip large; from there on the two answer the same.
 
-use cuttrace_lib::large_room;
-use cuttrace_lib::output_room;
-use cuttrace_lib::room;
-use cuttrace_lib::run_trace;
-use cuttrace_lib::settled;
-use cuttrace_lib::trace_room;
 ghost use Prim.Native.Nat.{_≤_};
 ghost use lib.ListN.{length};
 
 fn run(text: &[u8]) {
-    let mut list = large_room();
-    let mut memory = room();
-    let mut scratch = room();
-    let mut answers = large_room();
-    let mut out = output_room();
-    let n = run_trace(
+    let mut list = cuttrace_lib::large_room();
+    let mut memory = cuttrace_lib::room();
+    let mut scratch = cuttrace_lib::room();
+    let mut answers = cuttrace_lib::large_room();
+    let mut out = cuttrace_lib::output_room();
+    let n = cuttrace_lib::run_trace(
         text,
         &mut list,
         &mut memory,
@@ -49,7 +43,7 @@ fn read_trace(text: &mut [u8]) -> usize
             return len;
         }
         len += n;
-        if settled(&text[..len]) {
+        if cuttrace_lib::settled(&text[..len]) {
             return len;
         }
     }
@@ -57,7 +51,7 @@ fn read_trace(text: &mut [u8]) -> usize
 }
 
 fn main() {
-    let mut text = trace_room();
+    let mut text = cuttrace_lib::trace_room();
     let len = read_trace(&mut text);
     run(&text[..len]);
 }

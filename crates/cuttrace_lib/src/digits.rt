@@ -1,5 +1,4 @@
 // The bytes of a line of digits.
-use hex::value_of;
 ghost use mathlib.Core.Path.{_≡_};
 ghost use mathlib.Core.Bool.{cond};
 ghost use mathlib.Core.Option.{none, some};
@@ -11,11 +10,11 @@ ghost use Rattle.cuttrace_lib.specs.Lines.{byteOf, unhex};
 fn byte_of(a: u8, b: u8) -> u16
     ensures { λ r. ⌜ r ≡ byteOf a b ⌝ }
 {
-    let x = value_of(a);
+    let x = hex::value_of(a);
     if 16 <= x {
         return 256;
     }
-    let y = value_of(b);
+    let y = hex::value_of(b);
     if 16 <= y {
         return 256;
     }

@@ -1,8 +1,6 @@
 // The lines of a text as a list of calls.
 use crate::digits::put_bytes;
 use call_list::Item;
-use call_list::item_in;
-use call_list::item_length;
 ghost use mathlib.Core.Path.{_≡_};
 ghost use mathlib.Core.List.{[]};
 ghost use Prim.Native.Nat.{_+_, _*_, _≤_};
@@ -39,8 +37,8 @@ pub fn read_line(line: &[u8], room: &mut [u8]) -> Item
     if !put_bytes(line, room) {
         return Item::Bad;
     }
-    let item = item_in(&room[..n]);
-    if item_length(item) != n {
+    let item = call_list::item_in(&room[..n]);
+    if call_list::item_length(item) != n {
         return Item::Bad;
     }
     item
@@ -54,7 +52,7 @@ fn code_length(item: Item) -> usize
     if let Item::Bad = item {
         return 0;
     }
-    item_length(item)
+    call_list::item_length(item)
 }
 
 // Writes the list to the front of the room and returns its length.

@@ -2,10 +2,6 @@
 use crate::lines::line_length;
 use crate::lines::read_line;
 use call_list::Item;
-use call_list::ending_room;
-use call_list::item_room;
-use frames::print_line;
-use lists::low32;
 ghost use mathlib.Core.Path.{_≡_};
 ghost use mathlib.Core.List.{[]};
 ghost use Prim.Native.Nat.{_+_, _*_, _≤_, min};
@@ -25,9 +21,9 @@ fn print_answer(answer: &[u8], out: &mut [u8]) -> usize
         return 0;
     }
     if answer[0] != 0 {
-        return print_line(out, answer[0], b"");
+        return frames::print_line(out, answer[0], b"");
     }
-    print_line(out, 0, &answer[1..])
+    frames::print_line(out, 0, &answer[1..])
 }
 
 // FF for a bad line, nothing for a cut.
@@ -36,7 +32,7 @@ fn print_item(item: Item, answer: &[u8], out: &mut [u8]) -> usize
     ensures { λ r. ⌜ Shows (itemText item (now (answer .entry))) r (now (out .exit)) (now (out .entry)) ⌝ }
 {
     if let Item::Bad = item {
-        return print_line(out, 0xFF, b"");
+        return frames::print_line(out, 0xFF, b"");
     }
     print_answer(answer, out)
 }
@@ -57,11 +53,11 @@ fn print_file(answer: &[u8], out: &mut [u8]) -> usize
     ensures { λ r. ⌜ Shows (fileText (now (answer .entry))) r (now (out .exit)) (now (out .entry)) ⌝ }
 {
     if answer[0] != 0 {
-        return print_line(out, answer[0], b"");
+        return frames::print_line(out, answer[0], b"");
     }
-    let n = low32(answer[4], answer[3], answer[2], answer[1]) as usize;
+    let n = lists::low32(answer[4], answer[3], answer[2], answer[1]) as usize;
     let end = 5 + least(n, answer.len() - 5);
-    print_line(out, 0, &answer[5..end])
+    frames::print_line(out, 0, &answer[5..end])
 }
 
 // After the last item's answer: the file and the chip state.
@@ -97,11 +93,11 @@ pub fn print_lines(
     while i < text.len() {
         let end = i + line_length(&text[i..]);
         let item = read_line(&text[i..end], room);
-        let next = at + item_room(item);
+        let next = at + call_list::item_room(item);
         len += print_item(item, &answers[at..next], &mut out[len..]);
         at = next;
         i = end + 1;
     }
-    let end = at + ending_room(memory);
+    let end = at + call_list::ending_room(memory);
     len + print_ending(memory, &answers[at..end], &mut out[len..])
 }

@@ -1,11 +1,6 @@
 // Line 1: the kind, the image that has it, and what the list begins with.
 use frames::FirstLine;
-use frames::empty_line;
-use frames::first_in;
-use frames::push;
 use kind::SaveType;
-use lists::copy;
-use lists::fill;
 ghost use mathlib.Core.Path.{_≡_};
 ghost use Prim.Native.Nat.{_≤_};
 ghost use lib.ListN.{length};
@@ -17,13 +12,13 @@ ghost use Rattle.cuttrace_lib.specs.Setup.{imageOf, prelude, preludeRoom
 pub fn first_kind(line: &[u8]) -> FirstLine
     ensures { λ r. ⌜ r ≡ firstLine (now (line .entry)) ⌝ }
 {
-    let mut l = empty_line();
+    let mut l = frames::empty_line();
     let mut i = 0;
     while i < line.len() {
-        l = push(l, line[i]);
+        l = frames::push(l, line[i]);
         i += 1;
     }
-    first_in(l)
+    frames::first_in(l)
 }
 
 // An image of that kind, its marker in front. An image of Eeprom8k would be longer than 16 MiB, so that kind is played
@@ -32,14 +27,14 @@ pub fn put_image(kind: SaveType, image: &mut [u8])
     requires { ⌜ length (now image) ≡ 192 ⌝ }
     ensures { λ _. ⌜ now (image .exit) ≡ imageOf kind ⌝ }
 {
-    fill(image, 0);
+    lists::fill(image, 0);
     match kind {
         SaveType::None => {}
-        SaveType::Sram => copy(image, b"SRAM_V"),
-        SaveType::Flash64 => copy(image, b"FLASH_V"),
-        SaveType::Flash128 => copy(image, b"FLASH1M_V"),
-        SaveType::Eeprom512 => copy(image, b"EEPROM_V"),
-        SaveType::Eeprom8k => copy(image, b"EEPROM_V"),
+        SaveType::Sram => lists::copy(image, b"SRAM_V"),
+        SaveType::Flash64 => lists::copy(image, b"FLASH_V"),
+        SaveType::Flash128 => lists::copy(image, b"FLASH1M_V"),
+        SaveType::Eeprom512 => lists::copy(image, b"EEPROM_V"),
+        SaveType::Eeprom8k => lists::copy(image, b"EEPROM_V"),
     }
 }
 
@@ -47,8 +42,8 @@ fn put_load(list: &mut [u8])
     requires { ⌜ 8197 ≤ length (now list) ⌝ }
     ensures { λ _. ⌜ now (list .exit) ≡ into (prelude SaveType.Eeprom8k) (now (list .entry)) ⌝ }
 {
-    fill(&mut list[5..8197], 0xFF);
-    copy(list, &[8, 0, 0, 0x20, 0]);
+    lists::fill(&mut list[5..8197], 0xFF);
+    lists::copy(list, &[8, 0, 0, 0x20, 0]);
 }
 
 // Starts the list, before any line: for Eeprom8k with a load of 8,192 erased bytes. Returns its length.

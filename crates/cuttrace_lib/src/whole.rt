@@ -7,10 +7,7 @@ use crate::setup::prelude_room;
 use crate::setup::put_image;
 use crate::setup::put_prelude;
 use frames::FirstLine;
-use frames::print_line;
 use kind::SaveType;
-use kind::memory_size;
-use replay::gbasave_replay;
 ghost use mathlib.Core.Path.{_≡_};
 ghost use mathlib.Core.List.{[], _++_};
 ghost use Prim.Native.Nat.{_+_, _*_, _≤_};
@@ -49,11 +46,11 @@ fn print_all(kind: SaveType, text: &[u8], room: &mut [u8], answers: &[u8], out: 
         r (now (out .exit)) (now (out .entry)) ⌝ }
 {
     let from = prelude_room(kind);
-    let n = print_line(out, 0, b"");
+    let n = frames::print_line(out, 0, b"");
     n
         + print_lines(
             text,
-            memory_size(kind),
+            kind::memory_size(kind),
             room,
             &answers[from..],
             &mut out[n..],
@@ -82,8 +79,8 @@ fn play_lines(
     let mut image = [0u8; 192];
     put_image(kind, &mut image);
     let used = put_list(kind, text, list);
-    let n = memory_size(kind);
-    let refusal = gbasave_replay(
+    let n = kind::memory_size(kind);
+    let refusal = replay::gbasave_replay(
         &image,
         &list[..used],
         &mut memory[..n],
@@ -91,7 +88,7 @@ fn play_lines(
         answers,
     );
     if refusal != 0 {
-        return print_line(out, (refusal % 256) as u8, b"");
+        return frames::print_line(out, (refusal % 256) as u8, b"");
     }
     print_all(kind, text, list, answers, out)
 }
@@ -134,11 +131,11 @@ pub fn run_trace(
     match first_kind(&text[..end]) {
         FirstLine::Fresh(kind) => {
             if LONGEST_TRACE < text.len() {
-                return print_line(out, 0xFD, b"");
+                return frames::print_line(out, 0xFD, b"");
             }
             play_lines(kind, &text[from..], list, memory, scratch, answers, out)
         }
-        FirstLine::NoKind => print_line(out, 0xFF, b""),
+        FirstLine::NoKind => frames::print_line(out, 0xFF, b""),
     }
 }
 

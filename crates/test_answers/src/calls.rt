@@ -15,26 +15,12 @@ use crate::rooms::line_room;
 use cart::Cartridge;
 use cart::Reply;
 use cart::STATE_SIZE;
-use cart::fresh_cart;
 use carttrace_lib::Played;
-use carttrace_lib::play;
-use chip_by_reference::eeprom_write_copy;
-use crc::crc32;
-use file_calls::load_save;
-use file_calls::save_data;
 use frames::Frame;
 use frames::Line;
-use frames::empty_line;
-use frames::frame_in;
-use frames::print_line;
-use frames::push;
-use image::image_length;
 use kind::SaveType;
-use kind::memory_size;
 use memory::NO_FILE;
 use memory::Store;
-use memory::apply;
-use state_calls::restore_chip_state;
 ghost use Prim.Native.Nat.{_≤_};
 ghost use lib.ListN.{length};
 
@@ -54,14 +40,14 @@ fn status(reply: Reply, out: &mut [u8]) -> Played
     requires { ⌜ 256 ≤ length (now out) ⌝ }
 {
     let cart = reply.cart;
-    played(cart, print_line(out, reply.refusal, b""))
+    played(cart, frames::print_line(out, reply.refusal, b""))
 }
 
 fn line_of(frame: &[u8]) -> Line {
-    let mut l = empty_line();
+    let mut l = frames::empty_line();
     let mut i = 0;
     while i < frame.len() {
-        l = push(l, frame[i]);
+        l = frames::push(l, frame[i]);
         i += 1;
     }
     l
@@ -73,7 +59,7 @@ fn bit_in(value: u16, cart: Cartridge, memory: &mut [u8], out: &mut [u8]) -> Pla
 {
     let kind = cart.kind;
     let chip = cart.chip;
-    let r = eeprom_write_copy(chip, cart.len, kind, cart.dirty, memory, value);
+    let r = chip_by_reference::eeprom_write_copy(chip, cart.len, kind, cart.dirty, memory, value);
     let after = r.chip;
     let reply = r.reply;
     let next = Cartridge {
@@ -82,18 +68,18 @@ fn bit_in(value: u16, cart: Cartridge, memory: &mut [u8], out: &mut [u8]) -> Pla
         dirty: reply.dirty,
         chip: after,
     };
-    played(next, print_line(out, reply.refusal, b""))
+    played(next, frames::print_line(out, reply.refusal, b""))
 }
 
 // 01 to 07.
 fn trace_frame(text: &[u8], cart: Cartridge, memory: &mut [u8], out: &mut [u8]) -> Played
     requires { ⌜ 256 ≤ length (now out) ⌝ }
 {
-    let frame = frame_in(line_of(text));
+    let frame = frames::frame_in(line_of(text));
     match frame {
         Frame::Bad => no_answer(cart),
         Frame::EepromWrite(value) => bit_in(value, cart, memory, out),
-        _ => play(frame, cart, memory, out),
+        _ => carttrace_lib::play(frame, cart, memory, out),
     }
 }
 
@@ -107,7 +93,7 @@ fn load_made(
     requires { ⌜ 256 ≤ length (now out) ⌝ }
 {
     make_file(file, seed);
-    status(load_save(cart, memory, file), out)
+    status(file_calls::load_save(cart, memory, file), out)
 }
 
 // 08 length (6) seed (2).
@@ -128,15 +114,15 @@ fn export(cart: Cartridge, memory: &[u8], out: &mut [u8]) -> Played
     requires { ⌜ 256 ≤ length (now out) ⌝ }
 {
     let mut file = file_room();
-    let reply = save_data(cart, memory, &mut file);
+    let reply = file_calls::save_data(cart, memory, &mut file);
     if reply.refusal != 0 {
         return status(reply, out);
     }
     let n = at_most(reply.value as usize, &file);
     let len = bytes_of(reply.value);
-    let crc = bytes_of(crc32(&file[..n]));
+    let crc = bytes_of(crc::crc32(&file[..n]));
     let answer = [len[1], len[2], len[3], crc[0], crc[1], crc[2], crc[3]];
-    played(cart, print_line(out, 0, &answer))
+    played(cart, frames::print_line(out, 0, &answer))
 }
 
 // 0A chip state (36).
@@ -146,18 +132,18 @@ fn restore(s: &[u8], cart: Cartridge, out: &mut [u8]) -> Played
     if s.len() == 0 {
         return no_answer(cart);
     }
-    status(restore_chip_state(cart, &s[1..]), out)
+    status(state_calls::restore_chip_state(cart, &s[1..]), out)
 }
 
 fn opened(kind: SaveType, len: usize, cart: Cartridge, memory: &mut [u8], out: &mut [u8]) -> Played
     requires { ⌜ 256 ≤ length (now out) ⌝ }
 {
-    if !image_length(len) {
-        return played(cart, print_line(out, 1, b""));
+    if !image::image_length(len) {
+        return played(cart, frames::print_line(out, 1, b""));
     }
-    let n = at_most(memory_size(kind), memory);
-    apply(Store::Chip, &NO_FILE, &mut memory[..n]);
-    played(fresh_cart(len, kind), print_line(out, 0, b""))
+    let n = at_most(kind::memory_size(kind), memory);
+    memory::apply(Store::Chip, &NO_FILE, &mut memory[..n]);
+    played(cart::fresh_cart(len, kind), frames::print_line(out, 0, b""))
 }
 
 // 0B kind (2) image length (8).
@@ -226,6 +212,6 @@ pub fn answer(text: &[u8], cart: Cartridge, memory: &mut [u8], out: &mut [u8]) -
         return fresh(s, cart, memory, out);
     }
     let kind = cart.kind;
-    let n = at_most(memory_size(kind), memory);
+    let n = at_most(kind::memory_size(kind), memory);
     frame_answer(text, s, cart, &mut memory[..n], out)
 }

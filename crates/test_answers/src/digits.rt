@@ -1,13 +1,11 @@
 // Digits to bytes, bytes to numbers and numbers to bytes, highest first.
-use hex::value_of;
-use lists::low32;
 ghost use Prim.Native.Nat.{_≤_};
 ghost use Rattle.io.specs.Counts.{Counts};
 
 // The byte of two digits, or 256.
 pub fn pair(high: u8, low: u8) -> u16 {
-    let h = value_of(high);
-    let l = value_of(low);
+    let h = hex::value_of(high);
+    let l = hex::value_of(low);
     if 15 < h {
         return 256;
     }
@@ -47,7 +45,7 @@ pub fn byte(s: &[u8], place: usize) -> u8 {
 pub fn number(s: &[u8], place: usize) -> u32
     requires { ⌜ place ≤ 1000 ⌝ }
 {
-    low32(
+    lists::low32(
         byte(s, place + 3),
         byte(s, place + 2),
         byte(s, place + 1),

@@ -8,17 +8,6 @@ use crate::rooms::at_most;
 use crate::rooms::memory_room;
 use cart::Cartridge;
 use cart::Reply;
-use crc::rom_crc;
-use file_sizes::save_size_of;
-use frames::print_line;
-use image::header_checksum;
-use kind::detect_save_type;
-use kind::kind_number;
-use kind::memory_size;
-use lists::copy;
-use state_calls::eeprom_window_start;
-use state_calls::from_bytes;
-use title::header_title;
 ghost use mathlib.Core.Path.{_≡_};
 ghost use Prim.Native.Nat.{_≤_};
 ghost use lib.ListN.{length};
@@ -26,8 +15,8 @@ ghost use lib.ListN.{length};
 // Opens the image; the memory is not kept.
 fn opened(image: &[u8]) -> Reply {
     let mut memory = memory_room();
-    let n = at_most(memory_size(detect_save_type(image)), &memory);
-    from_bytes(image, &mut memory[..n])
+    let n = at_most(kind::memory_size(kind::detect_save_type(image)), &memory);
+    state_calls::from_bytes(image, &mut memory[..n])
 }
 
 // Kind, header check, CRC, `save_size`, `eeprom_window_start`, and the title's length.
@@ -35,14 +24,14 @@ fn head(image: &[u8], cart: Cartridge, title: u8) -> [u8; 15]
     ensures { λ r. ⌜ 15 ≡ length r ⌝ }
 {
     let kind = cart.kind;
-    let check = header_checksum(image);
-    let crc = rom_crc(image);
-    let window = eeprom_window_start(cart);
+    let check = image::header_checksum(image);
+    let crc = crc::rom_crc(image);
+    let window = state_calls::eeprom_window_start(cart);
     let c = bytes_of(crc.value);
-    let s = bytes_of((save_size_of(image) % 4294967296) as u32);
+    let s = bytes_of((file_sizes::save_size_of(image) % 4294967296) as u32);
     let w = bytes_of(window.value);
     [
-        (kind_number(kind) % 256) as u8,
+        (kind::kind_number(kind) % 256) as u8,
         (check.value % 256) as u8,
         c[0],
         c[1],
@@ -65,17 +54,17 @@ fn print_front(answer: &[u8], len: usize, out: &mut [u8]) -> usize
     requires { ⌜ 256 ≤ length (now out) ⌝ }
 {
     let n = at_most(len, answer);
-    print_line(out, 0, &answer[..n])
+    frames::print_line(out, 0, &answer[..n])
 }
 
 // Writes the head and, after it, the title. Returns the length of both.
 fn put_answer(image: &[u8], cart: Cartridge, answer: &mut [u8]) -> usize
     requires { ⌜ 15 ≤ length (now answer) ⌝ }
 {
-    let title = header_title(image, &mut answer[15..]);
+    let title = title::header_title(image, &mut answer[15..]);
     let len = title.value % 256;
     let head = head(image, cart, len as u8);
-    copy(answer, &head);
+    lists::copy(answer, &head);
     15 + len as usize
 }
 
@@ -92,7 +81,7 @@ fn ask(image: &[u8], out: &mut [u8]) -> usize
 {
     let reply = opened(image);
     if reply.refusal != 0 {
-        return print_line(out, reply.refusal, b"");
+        return frames::print_line(out, reply.refusal, b"");
     }
     let cart = reply.cart;
     print_image(image, cart, out)

@@ -3,9 +3,6 @@ use crate::digits::byte;
 use crate::digits::bytes_of;
 use crate::digits::number;
 use file_sizes::SaveFit;
-use file_sizes::save_fit;
-use file_sizes::save_size;
-use frames::print_line;
 use kind::SaveType;
 ghost use Prim.Native.Nat.{_≤_};
 ghost use lib.ListN.{length};
@@ -27,7 +24,7 @@ fn print_number(x: u32, out: &mut [u8]) -> usize
     requires { ⌜ 256 ≤ length (now out) ⌝ }
 {
     let answer = bytes_of(x);
-    print_line(out, 0, &answer)
+    frames::print_line(out, 0, &answer)
 }
 
 fn print_fit(fit: SaveFit, out: &mut [u8]) -> usize
@@ -35,7 +32,7 @@ fn print_fit(fit: SaveFit, out: &mut [u8]) -> usize
 {
     match fit {
         SaveFit::Keeps(n) => print_number((n % 4294967296) as u32, out),
-        SaveFit::Refused => print_line(out, 14, b""),
+        SaveFit::Refused => frames::print_line(out, 14, b""),
     }
 }
 
@@ -45,7 +42,7 @@ pub fn fit(s: &[u8], out: &mut [u8]) -> usize
 {
     let kind = kind_of(byte(s, 1));
     match kind {
-        Kind::Of(k) => print_fit(save_fit(k, number(s, 2) as usize), out),
+        Kind::Of(k) => print_fit(file_sizes::save_fit(k, number(s, 2) as usize), out),
         Kind::Nothing => 0,
     }
 }
@@ -56,7 +53,7 @@ pub fn size(s: &[u8], out: &mut [u8]) -> usize
 {
     let kind = kind_of(byte(s, 1));
     match kind {
-        Kind::Of(k) => print_number((save_size(k) % 4294967296) as u32, out),
+        Kind::Of(k) => print_number((file_sizes::save_size(k) % 4294967296) as u32, out),
         Kind::Nothing => 0,
     }
 }

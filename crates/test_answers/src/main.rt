@@ -10,18 +10,9 @@ mod rooms;
 mod tally;
 
 use bytes::scan::find;
-use calls::answer;
 use cart::Cartridge;
-use cart::fresh_cart;
 use kind::SaveType;
-use rooms::at_most;
-use rooms::line_room;
-use rooms::list_room;
-use rooms::memory_room;
 use tally::Tally;
-use tally::counted;
-use tally::no_lines;
-use tally::print_tally;
 
 // The state between two lines.
 struct Replay {
@@ -43,7 +34,7 @@ fn agrees(expected: &[u8], out: &[u8], len: usize) -> bool {
     if len == 0 {
         return false;
     }
-    let n = at_most(len - 1, out);
+    let n = rooms::at_most(len - 1, out);
     check::same(expected, &out[..n])
 }
 
@@ -56,7 +47,7 @@ fn print_answer(out: &[u8], len: usize) {
         print(b"no answer\n");
         return;
     }
-    let n = at_most(len, out);
+    let n = rooms::at_most(len, out);
     print(&out[..n]);
 }
 
@@ -74,9 +65,9 @@ fn print_difference(number: u64, frame: &[u8], expected: &[u8], out: &[u8], len:
 // Counts the line, and prints it if it differs.
 fn held(tally: Tally, frame: &[u8], expected: &[u8], out: &[u8], len: usize) -> Tally {
     if agrees(expected, out, len) {
-        return counted(tally, frame, true, true);
+        return tally::counted(tally, frame, true, true);
     }
-    let next = counted(tally, frame, len != 0, false);
+    let next = tally::counted(tally, frame, len != 0, false);
     print_difference(next.lines, frame, expected, out, len);
     next
 }
@@ -87,8 +78,8 @@ fn line(text: &[u8], replay: Replay, memory: &mut [u8]) -> Replay {
     let tally = replay.tally;
     let space = find(text, 0, text.len(), 0x20);
     let frame = &text[..space];
-    let mut out = line_room();
-    let p = answer(frame, cart, memory, &mut out);
+    let mut out = rooms::line_room();
+    let p = calls::answer(frame, cart, memory, &mut out);
     let next = p.cart;
     let tally = held(tally, frame, after(text, space), &out, p.len);
     Replay {
@@ -99,8 +90,8 @@ fn line(text: &[u8], replay: Replay, memory: &mut [u8]) -> Replay {
 
 fn begun() -> Replay {
     Replay {
-        cart: fresh_cart(0, SaveType::None),
-        tally: no_lines(),
+        cart: cart::fresh_cart(0, SaveType::None),
+        tally: tally::no_lines(),
     }
 }
 
@@ -123,13 +114,13 @@ fn main() {
         os::fail(&path[..n]);
         return;
     }
-    let mut text = list_room();
+    let mut text = rooms::list_room();
     let len = io::read_full(fd, &mut text);
     libc::close(fd);
     if len == text.len() {
         print(b"the list is too long\n");
         return;
     }
-    let mut memory = memory_room();
-    print_tally(lines(&text[..len], &mut memory));
+    let mut memory = rooms::memory_room();
+    tally::print_tally(lines(&text[..len], &mut memory));
 }

@@ -1,7 +1,6 @@
 // What is counted.
 use crate::digits::pair;
 use crate::print;
-use hex::character;
 use std::num::wrapping_add_u64;
 
 // How many lines there were, how many of them differ, and how many have an answer, by the frame's number.
@@ -54,7 +53,7 @@ fn print_frame(number: u8, count: u64) {
         return;
     }
     print(b"frame ");
-    let digits = [character(number / 16), character(number % 16)];
+    let digits = [hex::character(number / 16), hex::character(number % 16)];
     print(&digits);
     print(b": ");
     io::print_decimal(1, count);

@@ -3,9 +3,6 @@
 
 use carttrace_lib::Session;
 use carttrace_lib::Told;
-use carttrace_lib::feed;
-use carttrace_lib::finish;
-use carttrace_lib::opened;
 ghost use mathlib.Core.Path.{_≡_};
 ghost use Prim.Native.Nat.{_+_, _≤_, _<_};
 ghost use lib.ListN.{length};
@@ -39,11 +36,11 @@ fn pieces(text: &[u8], memory: &mut [u8], out: &mut [u8]) -> Session
     requires { ⌜ 131072 ≤ length (now memory) ⌝ }
     requires { ⌜ 4096 ≤ length (now out) ⌝ }
 {
-    let mut session = opened();
+    let mut session = carttrace_lib::opened();
     let mut i = 0;
     while i < text.len() {
         let end = piece_end(i, text.len());
-        let t = feed(session, &text[i..end], memory, out);
+        let t = carttrace_lib::feed(session, &text[i..end], memory, out);
         session = show(t, out);
         i = end;
     }
@@ -54,7 +51,7 @@ fn run(text: &[u8], memory: &mut [u8], out: &mut [u8])
     requires { ⌜ 131072 ≤ length (now memory) ⌝ }
     requires { ⌜ 4096 ≤ length (now out) ⌝ }
 {
-    let t = finish(pieces(text, memory, out), memory, out);
+    let t = carttrace_lib::finish(pieces(text, memory, out), memory, out);
     show(t, out);
 }
 

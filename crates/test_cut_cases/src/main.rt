@@ -1,18 +1,12 @@
 // Runs the trace in each file that an argument names, and prints what cuttrace prints for it.
 
-use cuttrace_lib::large_room;
-use cuttrace_lib::output_room;
-use cuttrace_lib::room;
-use cuttrace_lib::run_trace;
-use cuttrace_lib::trace_room;
-
 fn run(text: &[u8]) {
-    let mut list = large_room();
-    let mut memory = room();
-    let mut scratch = room();
-    let mut answers = large_room();
-    let mut out = output_room();
-    let n = run_trace(
+    let mut list = cuttrace_lib::large_room();
+    let mut memory = cuttrace_lib::room();
+    let mut scratch = cuttrace_lib::room();
+    let mut answers = cuttrace_lib::large_room();
+    let mut out = cuttrace_lib::output_room();
+    let n = cuttrace_lib::run_trace(
         text,
         &mut list,
         &mut memory,
@@ -35,7 +29,7 @@ fn case(k: usize) {
         os::fail(&path[..n]);
         return;
     }
-    let mut text = trace_room();
+    let mut text = cuttrace_lib::trace_room();
     let len = io::read_full(fd, &mut text);
     libc::close(fd);
     run(&text[..len]);

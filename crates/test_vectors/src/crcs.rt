@@ -1,10 +1,6 @@
 // Vectors of the CRC. Byte i of the bytes is (7 × i + i / 256) mod 256.
 use crate::print;
 use crate::print_byte;
-use crc::crc_feed;
-use crc::crc_finish;
-use crc::crc_start;
-use crc::crc32;
 ghost use mathlib.Core.Path.{_≡_};
 ghost use Prim.Native.Nat.{_+_, _≤_};
 ghost use lib.ListN.{length};
@@ -36,7 +32,7 @@ fn crc(text: &[u8]) {
     print(b"crc ");
     print(text);
     print(b": ");
-    print_crc(crc32(text));
+    print_crc(crc::crc32(text));
     print(b"\n");
 }
 
@@ -51,7 +47,7 @@ fn crcs_of(s: &[u8], n: usize)
     while place < 8 {
         let end = place + n;
         print(b" ");
-        print_crc(crc32(&s[place..end]));
+        print_crc(crc::crc32(&s[place..end]));
         place += 1;
     }
     print(b"\n");
@@ -80,14 +76,14 @@ fn crcs_around(s: &[u8], n: usize)
 fn fed_in_parts(s: &[u8], n: usize) -> u32
     requires { ⌜ 1 ≤ n ⌝ }
 {
-    let mut c = crc_start();
+    let mut c = crc::crc_start();
     let mut i: usize = 0;
     while n <= s.len() - i {
         let end = i + n;
-        c = crc_feed(c, &s[i..end]);
+        c = crc::crc_feed(c, &s[i..end]);
         i = end;
     }
-    crc_feed(c, &s[i..])
+    crc::crc_feed(c, &s[i..])
 }
 
 fn crc_in_parts(s: &[u8], n: usize)
@@ -96,7 +92,7 @@ fn crc_in_parts(s: &[u8], n: usize)
     print(b"crc in parts of ");
     io::print_decimal(1, n as u64);
     print(b": ");
-    print_crc(crc_finish(fed_in_parts(s, n)));
+    print_crc(crc::crc_finish(fed_in_parts(s, n)));
     print(b"\n");
 }
 

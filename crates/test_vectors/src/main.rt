@@ -1,14 +1,8 @@
 // Vectors of the image's side, each with its answer: what a reader holds against a book or another program.
 mod crcs;
 
-use crcs::crcs;
 use file_sizes::SaveFit;
-use file_sizes::save_fit;
-use file_sizes::save_size;
 use kind::SaveType;
-use kind::detect_save_type;
-use lists::copy;
-use title::header_title;
 ghost use Prim.Native.Nat.{_+_, _≤_};
 ghost use lib.ListN.{length};
 
@@ -43,7 +37,7 @@ fn print_kind(kind: SaveType) {
 fn put(image: &mut [u8], place: usize, text: &[u8])
     requires { ⌜ place + length (now text) ≤ length (now image) ⌝ }
 {
-    copy(&mut image[place..], text);
+    lists::copy(&mut image[place..], text);
 }
 
 // Twelve title bytes, the title's length, and a destination that was 36 bytes 2Eh.
@@ -53,7 +47,7 @@ fn title(bytes: &[u8])
     let mut image = [0u8; 192];
     put(&mut image, 0xA0, bytes);
     let mut destination = [0x2Eu8; 36];
-    let answer = header_title(&image, &mut destination);
+    let answer = title::header_title(&image, &mut destination);
     print(b"title ");
     print_bytes(bytes);
     print(b": ");
@@ -74,14 +68,14 @@ fn image_with(place: usize, text: &[u8])
     print(b" at ");
     io::print_decimal(1, place as u64);
     print(b": ");
-    print_kind(detect_save_type(&image));
+    print_kind(kind::detect_save_type(&image));
     print(b"\n");
 }
 
 fn fit(kind: SaveType, file: usize) {
     print(b" ");
     io::print_decimal(1, file as u64);
-    let answer = save_fit(kind, file);
+    let answer = file_sizes::save_fit(kind, file);
     match answer {
         SaveFit::Keeps(n) => {
             print(b">");
@@ -107,7 +101,7 @@ fn sizes(kind: SaveType) {
     print(b"fit ");
     print_kind(kind);
     print(b", size ");
-    io::print_decimal(1, save_size(kind) as u64);
+    io::print_decimal(1, file_sizes::save_size(kind) as u64);
     print(b":");
     fit(kind, 0);
     fits(kind, 512);
@@ -164,7 +158,7 @@ fn markers() {
 }
 
 fn main() {
-    crcs();
+    crcs::crcs();
     titles();
     markers();
     sizes(SaveType::None);
