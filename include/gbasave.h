@@ -67,8 +67,8 @@
  * They may all pass the same image.
  *
  * TIME. gbasave_from_bytes, gbasave_detect_save_type, gbasave_save_fit, gbasave_save_size and gbasave_rom_crc read the
- * image. gbasave_load_save, gbasave_import_save, gbasave_save_data and the erasing of a flash chip go through the
- * memory. The time of every other call does not grow with the size of either.
+ * image, gbasave_crc_feed its part. gbasave_load_save, gbasave_import_save, gbasave_save_data and the erasing of a flash
+ * chip go through the memory. The time of every other call does not grow with the size of either.
  *
  * TO PLAY.
  *   1. Compare gbasave_version() with GBASAVE_VERSION_NUMBER. If they differ, the archive belongs to another header.

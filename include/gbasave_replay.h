@@ -67,7 +67,8 @@ extern "C" {
  *   Changes: memory: as the calls leave it. scratch: every byte becomes 0.
  * If it is refused it changes nothing. A status in the output refuses only its own item; the list goes on after it.
  *
- * The caller has to ensure what gbasave.h says: no pointer is NULL, and no two objects overlap.
+ * The caller has to ensure what gbasave.h says: no pointer is NULL, except that of a buffer whose length is 0, and no
+ * two objects overlap.
  */
 uint32_t gbasave_replay(const uint8_t *image, size_t image_length, const uint8_t *list, size_t list_length, uint8_t *memory,
                         size_t memory_length, uint8_t *scratch, size_t scratch_length, uint8_t *out, size_t out_length);
