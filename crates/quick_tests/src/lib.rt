@@ -54,6 +54,7 @@ fn serial_rests(bytes: &[u8]) -> bool
         <= 1
 }
 
+// The state is asked before what the read goes on with is loaded: later, no register is free for its two comparisons.
 fn bytes_usual_in(bytes: &[u8]) -> bool
     requires { ⌜ length (now bytes) ≡ recordSize ⌝ }
     ensures { λ b. ⌜ (b ≡ true → isKnown (now (bytes .entry)) ≡ true
@@ -62,13 +63,13 @@ fn bytes_usual_in(bytes: &[u8]) -> bool
     if 1 < bytes[layout::DIRTY] {
         return false;
     }
+    if !flash::state_allowed(bytes[layout::FLASH_STATE]) {
+        return false;
+    }
     if 1 < bytes[layout::BANK] {
         return false;
     }
-    if !serial_rests(bytes) {
-        return false;
-    }
-    flash::state_allowed(bytes[layout::FLASH_STATE])
+    serial_rests(bytes)
 }
 
 // For the byte calls: the serial chip is at rest.

@@ -16,9 +16,11 @@ returns-3 c = λ e h. never e
 
 returns-4 : tie.Need-returns-4
 returns-4 c = λ e h.
-    let s = c .before .before .before .serial-rests .ensures (granted _ refl (c .before .before .if3 .left)) in
-    rests-record (c .before .before .before .before .before .before .before .before .before .args .bytes .now) (c .before .before .before .before .before .before .before .before .before .pre) (c .before .before .before .before .before .before .if1 .left)
-    (record { state = sym (c .state-allowed .ensures) ∙ e; bank = c .before .before .before .before .if2 .left; id = s .0 }) (s .1) h
+    let s = c .serial-rests .ensures e in
+    let start = c .before .before .before .before .before .before .before .before .before in
+    let state = sym (c .before .before .before .before .state-allowed .ensures) ∙ granted _ refl (c .before .before .before .if2 .left) in
+    rests-record (start .args .bytes .now) (start .pre) (c .before .before .before .before .before .before .if1 .left)
+    (record { state = state; bank = c .before .if3 .left; id = s .0 }) (s .1) h
 
 pub bytes-usual-in-spec : {M : Type 1} → statement M
 bytes-usual-in-spec =
@@ -27,9 +29,9 @@ bytes-usual-in-spec =
     (λ c. search needs)
     returns
     (λ c. search needs)
-    returns-2
     (λ c κs. search needs)
-    returns-3
+    returns-2
     (λ c. search needs)
+    returns-3
     (λ c κs. search needs)
     returns-4)
