@@ -6,9 +6,7 @@ use image::Answer;
 ghost use mathlib.Core.Path.{_≡_};
 ghost use Prim.Native.Nat.{_*_, _<_, _≤_};
 ghost use lib.ListN.{length, take};
-ghost use Rattle.lists.specs.Lists.{into};
-ghost use Rattle.title.specs.Title.{sequence as sequence·spec, shown, showing, replaced};
-ghost use Rattle.title.specs.Title.{trimmed, titleBytes, headerTitle};
+ghost use Rattle.title.specs.Title.{showing, replaced, trimmed, headerTitle};
 
 // What a text begins with: a well-formed UTF-8 sequence, or the maximal subpart of an ill-formed one, by its length.
 pub enum Sequence {
