@@ -8,6 +8,7 @@ use crate::raw;
 pub struct Crc(u32);
 
 impl Crc {
+    /// Begins with no part.
     pub fn start() -> Self {
         let mut crc = 0;
         unsafe { raw::gbasave_crc_start(&mut crc) };
