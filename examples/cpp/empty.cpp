@@ -1,6 +1,7 @@
 // Buffers of length 0 as C++ has them: an empty std::vector, whose pointer is NULL. It checks every answer; a wrong one ends
 // the program with status 1.
 #include <gbasave.h>
+#include <gbasave_replay.h>
 
 #include <algorithm>
 #include <cstdio>
@@ -64,6 +65,35 @@ static void no_memory()
     std::puts("kind NONE with an empty memory: opens, plays, loads and exports no bytes");
 }
 
+static void no_part()
+{
+    bytes part;
+    std::uint32_t crc, before;
+    expect("CRC, start", gbasave_crc_start(&crc) == 0);
+    before = crc;
+    expect("an empty part changes nothing", gbasave_crc_feed(&crc, part.data(), part.size()) == 0 && crc == before);
+    expect("CRC of no bytes", gbasave_crc_finish(&crc) == 0 && crc == 0);
+    std::puts("an empty part of an image: the CRC goes on from where it was");
+}
+
+// The end of a replay is the file's status and length, and the state with its status: of a fresh kind NONE all 0.
+static void no_list()
+{
+    const bytes image = image_with("");
+    bytes nothing, out(5 + 1 + GBASAVE_STATE_SIZE, 0x5A);
+    const bytes as_it_was = out;
+    expect("replay, empty image",
+           gbasave_replay(nothing.data(), 0, nothing.data(), 0, nothing.data(), 0, nothing.data(), 0, out.data(), out.size()) ==
+               GBASAVE_REFUSED_IMAGE_LENGTH);
+    expect("replay, empty output", gbasave_replay(image.data(), image.size(), nothing.data(), 0, nothing.data(), 0, nothing.data(),
+                                                  0, nothing.data(), 0) == GBASAVE_REFUSED_DESTINATION_LENGTH);
+    expect("a refused replay writes nothing", out == as_it_was);
+    expect("replay", gbasave_replay(image.data(), image.size(), nothing.data(), 0, nothing.data(), 0, nothing.data(), 0, out.data(),
+                                    out.size()) == 0);
+    expect("the end alone", out == bytes(out.size(), 0));
+    std::puts("a replay of an empty list, with an empty memory and scratch: writes the end alone");
+}
+
 // A kind with a memory: each other buffer is empty in turn, and then the memory.
 static void no_file(const std::string &marker)
 {
@@ -101,5 +131,7 @@ int main()
     no_memory();
     for (const char *marker : {"SRAM_V", "FLASH_V", "FLASH1M_V", "EEPROM_V"})
         no_file(marker);
+    no_part();
+    no_list();
     return 0;
 }
