@@ -8,32 +8,21 @@ use Rattle.memory.specs.declared.Store.the-variants.{Nothing, Byte}
 use Rattle.memory.specs.Memory.{Held, stores, changed}
 use Rattle.kind.specs.declared.SaveType.{SaveType}
 use Rattle.kind.specs.declared.SaveType.the-variants.{None, Sram, Flash64, Flash128, Eeprom512, Eeprom8k}
-use Rattle.kind.specs.Kind.{byKind}
+use Rattle.part.specs.declared.Part.{Part}
+use Rattle.part.specs.Part.{idWord}
 use Rattle.flash.specs.declared.Flash.{Flash}
 use Rattle.flash.specs.declared.FlashStep.{FlashStep}
 use Rattle.flash.specs.Flash.{flashRead, flashWrite}
 use Rattle.byte_step.specs.declared.ByteStep.{ByteStep}
 
--- "an even address reads 32h (Flash64) or 62h (Flash128), an odd one 1Bh or 13h": the ID words, the maker in the
--- low byte
-abbrev pub panasonic64K : ℕ
-panasonic64K = 0x1b32
-
-abbrev pub sanyo128K : ℕ
-sanyo128K = 0x1362
-
--- of a kind's flash part; the other kinds have none
-abbrev pub idWord : SaveType → ℕ
-idWord kind = byKind kind 0 0 panasonic64K sanyo128K 0 0
-
 -- "Sram: address mod 32,768 .. None: reads FFh .. EEPROM kinds: address mod 8,192"
-unfoldable pub readByte : SaveType → Flash → List ℕ → ℕ → ℕ
-readByte None f m a = 0xff
-readByte Sram f m a = getD m (a % 32768) 0
-readByte Flash64 f m a = flashRead (idWord Flash64) f m a
-readByte Flash128 f m a = flashRead (idWord Flash128) f m a
-readByte Eeprom512 f m a = getD m (a % 8192) 0
-readByte Eeprom8k f m a = getD m (a % 8192) 0
+unfoldable pub readByte : SaveType → Part → Flash → List ℕ → ℕ → ℕ
+readByte None p f m a = 0xff
+readByte Sram p f m a = getD m (a % 32768) 0
+readByte Flash64 p f m a = flashRead (idWord p Flash64) f m a
+readByte Flash128 p f m a = flashRead (idWord p Flash128) f m a
+readByte Eeprom512 p f m a = getD m (a % 8192) 0
+readByte Eeprom8k p f m a = getD m (a % 8192) 0
 
 -- what a write leads to: the flash chip, whether the changed flag is set, and what is stored
 abbrev pub stepTo : Flash → Bool → Store → ByteStep

@@ -3,12 +3,14 @@
 use flash::Flash;
 use kind::SaveType;
 use memory::Store;
+use part::Part;
 ghost use mathlib.Core.Path.{_≡_};
 ghost use Prim.Native.Nat.{_<_};
 ghost use lib.ListN.{length};
 ghost use Rattle.kind.specs.Kind.{memorySize};
+ghost use Rattle.part.specs.Part.{idWord};
 ghost use Rattle.flash.specs.Flash.{flashRead, flashWrite};
-ghost use Rattle.byte_step.specs.ByteStep.{stepTo, ofFlash, idWord, readByte, writeStep};
+ghost use Rattle.byte_step.specs.ByteStep.{stepTo, ofFlash, readByte, writeStep};
 
 // What a written byte leads to: the flash chip, whether the changed flag is set, and what is to be stored.
 pub struct ByteStep {
@@ -17,33 +19,24 @@ pub struct ByteStep {
     pub store: Store,
 }
 
-// ID words of the flash parts by kind number: maker in the low byte, device in the high byte.
-const ID_WORDS: [u16; 6] = [0, 0, 0x1B32, 0x1362, 0, 0];
-
-fn id_word(kind: SaveType) -> u16
-    ensures { λ r. ⌜ r ≡ idWord kind ⌝ }
-{
-    ID_WORDS[kind::kind_number(kind)]
-}
-
-fn read_flash(kind: SaveType, flash: Flash, memory: &[u8], address: u32) -> u8
+fn read_flash(kind: SaveType, part: Part, flash: Flash, memory: &[u8], address: u32) -> u8
     requires { ⌜ 0 < length (now memory) ⌝ }
-    ensures { λ r. ⌜ r ≡ flashRead (idWord kind) flash (now (memory .entry)) address ⌝ }
+    ensures { λ r. ⌜ r ≡ flashRead (idWord part kind) flash (now (memory .entry)) address ⌝ }
 {
     if flash.id {
-        return flash::id_byte(id_word(kind), address);
+        return flash::id_byte(part::id_word(part, kind), address);
     }
     flash::shown_byte(flash, memory, address)
 }
 
-pub fn read_byte(kind: SaveType, flash: Flash, memory: &[u8], address: u32) -> u8
+pub fn read_byte(kind: SaveType, part: Part, flash: Flash, memory: &[u8], address: u32) -> u8
     requires { ⌜ length (now memory) ≡ memorySize kind ⌝ }
-    ensures { λ r. ⌜ r ≡ readByte kind flash (now (memory .entry)) address ⌝ }
+    ensures { λ r. ⌜ r ≡ readByte kind part flash (now (memory .entry)) address ⌝ }
 {
     match kind {
         SaveType::None => 0xFF,
         SaveType::Sram => memory[(address % 32768) as usize],
-        SaveType::Flash64 | SaveType::Flash128 => read_flash(kind, flash, memory, address),
+        SaveType::Flash64 | SaveType::Flash128 => read_flash(kind, part, flash, memory, address),
         SaveType::Eeprom512 | SaveType::Eeprom8k => memory[(address % 8192) as usize],
     }
 }

@@ -4,6 +4,7 @@ use Rattle.lists.specs.Lists.{fold, lowFirst}
 use Rattle.memory.specs.Memory.{erased, stored, filled}
 use Rattle.image.specs.Image.{imageLength, less, headerSum, headerChecksum}
 use Rattle.kind.specs.Kind.{begins, stands, detectSaveType}
+use Rattle.part.specs.Part.{partOf, partFits}
 use Rattle.file_sizes.specs.SaveFit.{chipSize, saveFit}
 use Rattle.flash.specs.Flash.{stateAllowed}
 use Rattle.eeprom.specs.Eeprom.{widthAllowed, w, tells6, tells14, beginDma, dmaQuestion, shiftIn, opcodePhase, turned, writeBit, bitIn}
@@ -15,7 +16,7 @@ use Rattle.cart.specs.Cases.{Cases}
 use Rattle.cart.proofs.FlashCommands.{no-erase}
 
 pub cases-hold : Cases
-unfolding fold lowFirst erased stored filled imageLength less headerSum headerChecksum begins stands detectSaveType chipSize saveFit stateAllowed widthAllowed w tells6 tells14 beginDma dmaQuestion shiftIn opcodePhase turned writeBit phaseOf chipBytes chipOf fieldQuestions recordAllowed freshCart fresh fromBytes bitIn load questions accepted step restore calls
+unfolding fold lowFirst erased stored filled imageLength less headerSum headerChecksum begins stands detectSaveType partOf partFits chipSize saveFit stateAllowed widthAllowed w tells6 tells14 beginDma dmaQuestion shiftIn opcodePhase turned writeBit phaseOf chipBytes chipOf fieldQuestions recordAllowed freshCart fresh fromBytes bitIn load questions accepted step restore calls
 cases-hold =
     record {
       a = (refl, refl, refl);

@@ -84,24 +84,25 @@ pub step-same : (c : Call) (d : List ℕ) (s t : State) → quiet s ≡ quiet t 
 step-same c d s t e = sym (step-quiet c d s) ∙ ap (λ (z : State). unflagged (step c d z)) e ∙ step-quiet c d t
 
 -- nor does a cut need it
-pub recoverable-flag : (image : List ℕ) (dirty : Bool) (s : State) → Recoverable image s → Recoverable image (withFlag dirty s)
-recoverable-flag image dirty s r =
+pub recoverable-flag : (image : List ℕ) (part : ℕ) (dirty : Bool) (s : State) → Recoverable image part s → Recoverable image part (withFlag dirty s)
+recoverable-flag image part dirty s r =
     record {
-      sound = record { lenOk = r .sound .lenOk; memoryOk = r .sound .memoryOk; flashOk = r .sound .flashOk; eepromOk = r .sound .eepromOk };
+      sound = record { lenOk = r .sound .lenOk; partOk = r .sound .partOk; memoryOk = r .sound .memoryOk; flashOk = r .sound .flashOk; eepromOk = r .sound .eepromOk };
       lenIs = r .lenIs;
       kindIs = r .kindIs;
+      partIs = r .partIs;
       tail = r .tail;
     }
 
 -- any number of cuts
-cuts-kept : (image memory : List ℕ) (n : ℕ) (s : State) → fromBytes image memory .refusal ≡ 0 → Recoverable image s
-    → (quiet (cuts image memory n s) ≡ quiet s) × Recoverable image (cuts image memory n s)
+cuts-kept : (image : List ℕ) (part : ℕ) (memory : List ℕ) (n : ℕ) (s : State) → fromBytes image part memory .refusal ≡ 0 → Recoverable image part s
+    → (quiet (cuts image part memory n s) ≡ quiet s) × Recoverable image part (cuts image part memory n s)
 unfolding cuts
-cuts-kept image memory zero s h r = (refl, r)
-cuts-kept image memory (suc n) s h r =
-    let q : cut image memory s ≡ quiet s = cut-quiet image memory s h r in
-    let k : Recoverable image (cut image memory s) = rw q (recoverable-flag image false s r) in
-    let i = cuts-kept image memory n (cut image memory s) h k in
+cuts-kept image part memory zero s h r = (refl, r)
+cuts-kept image part memory (suc n) s h r =
+    let q : cut image part memory s ≡ quiet s = cut-quiet image part memory s h r in
+    let k : Recoverable image part (cut image part memory s) = rw q (recoverable-flag image part false s r) in
+    let i = cuts-kept image part memory n (cut image part memory s) h k in
     (i .0 ∙ ap quiet q, i .1)
 
 -- what a cut leaves does not show the flag
@@ -115,28 +116,28 @@ abbrev NoByteWrites : SaveType → List Turn → Type 0
 NoByteWrites kind list = (a v : ℕ) → List·Memᴰ (saveWrite a v) (map (λ t. t .call) list) → usesEeprom kind ≡ false
 
 -- s goes through the list with its cuts, t without
-runs-same : (image memory : List ℕ) (list : List Turn) (s t : State) → fromBytes image memory .refusal ≡ 0 → NoByteWrites (detectSaveType image) list
-    → quiet s ≡ quiet t → Recoverable image s → Recoverable image t → run image memory list s ≡ run image memory (uncut list) t
+runs-same : (image : List ℕ) (part : ℕ) (memory : List ℕ) (list : List Turn) (s t : State) → fromBytes image part memory .refusal ≡ 0 → NoByteWrites (detectSaveType image) list
+    → quiet s ≡ quiet t → Recoverable image part s → Recoverable image part t → run image part memory list s ≡ run image part memory (uncut list) t
 unfolding run cuts
-runs-same image memory [] s t h n e r q =
+runs-same image part memory [] s t h n e r q =
     let l = left-same s t (r .sound) (q .sound) e in
     λ i. record { calls = []; file = l .0 i; bytes = l .1 i }
-runs-same image memory (x ∷ list) s t h n e r q =
+runs-same image part memory (x ∷ list) s t h n e r q =
     let c : Call = x .call in
     let d : List ℕ = x .destination in
     let w : NoByteWrite (detectSaveType image) c = λ a v p. n a v (List·Memᴰ·head p) in
     let o : unflagged (step c d s) ≡ unflagged (step c d t) = step-same c d s t e in
-    let k = cuts-kept image memory (x .cutsBehind) (step c d s .next) h (recoverable-step image c d s w r) in
-    let i : run image memory list (cuts image memory (x .cutsBehind) (step c d s .next)) ≡ run image memory (uncut list) (step c d t .next) =
-    runs-same image memory list (cuts image memory (x .cutsBehind) (step c d s .next)) (step c d t .next) h (λ a v p. n a v (List·Memᴰ·tail p))
+    let k = cuts-kept image part memory (x .cutsBehind) (step c d s .next) h (recoverable-step image part c d s w r) in
+    let i : run image part memory list (cuts image part memory (x .cutsBehind) (step c d s .next)) ≡ run image part memory (uncut list) (step c d t .next) =
+    runs-same image part memory list (cuts image part memory (x .cutsBehind) (step c d s .next)) (step c d t .next) h (λ a v p. n a v (List·Memᴰ·tail p))
     (k .0 ∙ ap (λ (z : Outcome). z .next) o)
     (k .1)
-    (recoverable-step image c d t w q)
+    (recoverable-step image part c d t w q)
     in
     λ j. before (o j) (i j)
 
 -- Demand 3
 pub cut-runs : CutRuns
-cut-runs image memory list h n =
-    let r : Recoverable image (fromBytes image memory .next) = rw (opened image memory h) (recoverable-fresh image memory h) in
-    runs-same image memory list (fromBytes image memory .next) (fromBytes image memory .next) h n refl r r
+cut-runs image part memory list h n =
+    let r : Recoverable image part (fromBytes image part memory .next) = rw (opened image part memory h) (recoverable-fresh image part memory h) in
+    runs-same image part memory list (fromBytes image part memory .next) (fromBytes image part memory .next) h n refl r r

@@ -9,6 +9,8 @@ use Rattle.memory.specs.Memory.{erased, stored, filled}
 use Rattle.image.specs.Image.{imageLength}
 use Rattle.kind.specs.declared.SaveType.the-variants.{None}
 use Rattle.kind.specs.Kind.{begins, stands, detectSaveType}
+use Rattle.part.specs.declared.Part.the-variants.{Usual, Macronix64, Macronix128}
+use Rattle.part.specs.Part.{partOf, idWord, partFits}
 use Rattle.file_sizes.specs.SaveFit.{chipSize, eepromFit, saveFit, keptPart}
 use Rattle.flash.specs.Flash.{stateAllowed}
 use Rattle.eeprom.specs.Eeprom.{widthAllowed, w, readBit, afterRead}
@@ -30,10 +32,10 @@ sram = ascii "SRAM_V" ++ replicate 186 0
 
 record Refusals : Type 0 where
   record2 : (step chipState [] (spoiled plain) .refusal ≡ 2) × (step takeSaveDirty [] (spoiled plain) .refusal ≡ 2) × (restore [] (spoiled plain) .refusal ≡ 2)
-  length2 : step chipState [] (record { cart = freshCart 191 None; memory = [] }) .refusal ≡ 2
+  length2 : step chipState [] (record { cart = freshCart 191 None Usual; memory = [] }) .refusal ≡ 2
   memory3 : (step (saveRead 0) [] (longer plain) .refusal ≡ 3) × (step eepromRead [] (longer plain) .refusal ≡ 3) × (step saveData [] (longer plain) .refusal ≡ 3)
   first : step (saveWrite 0 0) [] (longer (spoiled plain)) .refusal ≡ 2
-  open3 : fromBytes sram [] ≡ record { refusal = 3; given = []; flag = false; next = record { cart = freshCart 0 None; memory = [] }; destination = [] }
+  open3 : fromBytes sram 0 [] ≡ record { refusal = 3; given = []; flag = false; next = record { cart = freshCart 0 None Usual; memory = [] }; destination = [] }
   kind4 : step (eepromWrite 0) [] plain .refusal ≡ 4
   state : (restored [] ≡ 6) × (restored (replicate 19 0) ≡ 6) × (restored (chip 9 0 0 0 0) ≡ 8) × (restored (chip 0 2 0 0 0) ≡ 9)
   width10 : restored (replicate 3 0 ++ (7 ∷ replicate 14 0)) ≡ 10
@@ -41,7 +43,7 @@ record Refusals : Type 0 where
   import14 : importSave (replicate 513 0) eeprom .refusal ≡ 14
 
 refusals : Refusals
-unfolding lowFirst erased imageLength begins stands detectSaveType chipSize eepromFit saveFit keptPart stateAllowed widthAllowed w phaseOf chipBytes chipOf fieldQuestions recordAllowed freshCart fresh fromBytes fileOf questions accepted step restore importSave
+unfolding lowFirst erased imageLength begins stands detectSaveType partOf partFits chipSize eepromFit saveFit keptPart stateAllowed widthAllowed w phaseOf chipBytes chipOf fieldQuestions recordAllowed freshCart fresh fromBytes fileOf questions accepted step restore importSave
 refusals =
     record {
       record2 = (refl, refl, refl);
@@ -65,10 +67,10 @@ record Answers : Type 0 where
   byte : (step (saveWrite 8195 9) [] eeprom .next .cart .dirty ≡ false) × (step (saveRead 3) [] (step (saveWrite 8195 9) [] eeprom .next) .given ≡ 9 ∷ [])
   taken : (step takeSaveDirty [] (stateWith plain true (plain .cart .chip) []) .flag ≡ true) × (step takeSaveDirty [] (stateWith plain true (plain .cart .chip) []) .next ≡ plain)
   reading : (step eepromRead [] (restore (chip 0 0 6 0 0) plain .next) .given ≡ 0 ∷ []) × (step eepromRead [] (restore (replicate 5 0 ++ (6 ∷ (replicate 3 0 ++ (4 ∷ replicate 8 0)))) plain .next) .given ≡ 1 ∷ [])
-  window : (eepromWindowStart (freshCart 16777216 None) .value ≡ 0x0d000000) × (eepromWindowStart (freshCart 16777217 None) .value ≡ 0x0dffff00) × (usesEepromOf (plain .cart) .value ≡ 0) × (usesEepromOf (eeprom .cart) .value ≡ 1)
+  window : (eepromWindowStart (freshCart 16777216 None Usual) .value ≡ 0x0d000000) × (eepromWindowStart (freshCart 16777217 None Usual) .value ≡ 0x0dffff00) × (usesEepromOf (plain .cart) .value ≡ 0) × (usesEepromOf (eeprom .cart) .value ≡ 1)
 
 answers : Answers
-unfolding into lowFirst erased stored filled imageLength begins stands detectSaveType chipSize eepromFit saveFit keptPart stateAllowed widthAllowed w readBit afterRead phaseOf chipBytes chipOf fieldQuestions recordAllowed freshCart fresh fromBytes readByte writeStep readSave writeSave load fileOf questions accepted step restore importSave usesEepromOf eepromWindowStart
+unfolding into lowFirst erased stored filled imageLength begins stands detectSaveType partOf partFits chipSize eepromFit saveFit keptPart stateAllowed widthAllowed w readBit afterRead phaseOf chipBytes chipOf fieldQuestions recordAllowed freshCart fresh fromBytes readByte writeStep readSave writeSave load fileOf questions accepted step restore importSave usesEepromOf eepromWindowStart
 answers =
     record {
       none = (refl, refl, refl);

@@ -21,6 +21,7 @@ use Rattle.eeprom.proofs.Allowed.{w-le}
 use Rattle.cart.specs.declared.ChipRecord.{ChipRecord}
 use Rattle.cart.specs.ChipState.{chipBytes, fieldQuestions, stateQuestions}
 use Rattle.cart.specs.declared.Cartridge.{Cartridge}
+use Rattle.part.specs.Part.{partFits}
 use Rattle.cart.specs.Record.{chipAllowed, recordAllowed}
 use Rattle.cart.proofs.ChipState.{phase-le, phase-back, bit-le, bit-back}
 
@@ -87,7 +88,7 @@ allowed-bounds c h =
     let w : Bool = widthAllowed (e .width) in
     let b : Bool = leb (c .chip .flash .bank) 1 in
     let s : Bool = stateAllowed (c .chip .flash .state) in
-    let y = sym (chip-fields (c .chip)) ∙ and-right (imageLength (c .len)) (chipAllowed (c .chip)) h in
+    let y = sym (chip-fields (c .chip)) ∙ and-right (imageLength (c .len) && partFits (c .part) (c .kind)) (chipAllowed (c .chip)) h in
     let y2 = and-right s (b && (w && (k && (p && l)))) y in
     let y3 = and-right b (w && (k && (p && l))) y2 in
     let t = and-left w (k && (p && l)) y3 in

@@ -8,6 +8,7 @@ pub mod Resume
 pub mod CutRuns
 pub mod Restore
 pub mod Flag
+pub mod Parts
 pub mod Reached
 pub mod Runs
 pub mod SramBytes

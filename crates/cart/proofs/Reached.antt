@@ -15,6 +15,7 @@ use Rattle.cart.specs.Calls.{Call, restoreQuestions, importQuestions, st
 use Rattle.cart.specs.Gbatek.{calls, Usable, Reached, UsableStates}
 use Rattle.cart.proofs.Sound.{Sound, record-allowed, opened, sound-fresh, sound-step}
 use Rattle.cart.proofs.Usable.{usable-step, usable-load}
+use Rattle.cart.proofs.Parts.{listed-64, listed-128}
 use Rattle.cart.proofs.Restore.{state-yes, restored-allowed}
 
 sound-calls : (cs : List Call) (s : State) → Sound s → Sound (calls cs s .last)
@@ -24,9 +25,9 @@ sound-calls (c ∷ cs) s k = sound-calls cs (step c [] s .next) (sound-step c []
 
 reached-sound : (s : State) → Reached s → Sound s
 reached-sound s r =
-    let e = opened (r .image) (r .memory) (r .opens) in
-    let f : Sound (fromBytes (r .image) (r .memory) .next) = rw e (sound-fresh (r .image) (r .memory) (r .opens)) in
-    subst Sound (r .leads) (sound-calls (r .list) (fromBytes (r .image) (r .memory) .next) f)
+    let e = opened (r .image) (r .part) (r .memory) (r .opens) in
+    let f : Sound (fromBytes (r .image) (r .part) (r .memory) .next) = rw e (sound-fresh (r .image) (r .part) (r .memory) (r .opens)) in
+    subst Sound (r .leads) (sound-calls (r .list) (fromBytes (r .image) (r .part) (r .memory) .next) f)
 
 -- acc holds only the bits shifted in since the count was 0
 acc-0 : (s : State) → Sound s → s .cart .chip .eeprom .count ≡ 0 → s .cart .chip .eeprom .acc ≡ 0
@@ -53,6 +54,8 @@ usable-states =
       stays = usable-step;
       restored = restored;
       imported = imported;
+      listed64 = listed-64;
+      listed128 = listed-128;
       reached = λ s r. let k = reached-sound s r in record { valid = record-allowed s k; memoryOk = k .memoryOk };
       acc0 = λ s r. acc-0 s (reached-sound s r);
     }

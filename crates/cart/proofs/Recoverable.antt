@@ -19,6 +19,7 @@ use Rattle.memory.specs.Memory.{erased, filled, stored}
 use Rattle.memory.proofs.Memory.{drop-erased, drop-filled, drop-block}
 use Rattle.kind.specs.declared.SaveType.{SaveType}
 use Rattle.kind.specs.Kind.{memorySize, usesEeprom, detectSaveType}
+use Rattle.part.specs.Part.{partOf}
 use Rattle.eeprom.specs.declared.Eeprom.{Eeprom}
 use Rattle.eeprom.specs.declared.EepromStep.{EepromStep}
 use Rattle.eeprom.specs.declared.Drawn.{Drawn}
@@ -35,20 +36,21 @@ TailErased s =
     usesEeprom (s .cart .kind) ≡ true → s .cart .chip .eeprom .large ≡ false
     → drop 512 (s .memory) ≡ erased (memorySize (s .cart .kind) - 512)
 
-pub record Recoverable (image : List ℕ) (s : State) : Type 0 where
+pub record Recoverable (image : List ℕ) (part : ℕ) (s : State) : Type 0 where
   pub sound : Sound s
   pub lenIs : s .cart .len ≡ length image
   pub kindIs : s .cart .kind ≡ detectSaveType image
+  pub partIs : s .cart .part ≡ partOf part
   pub tail : TailErased s
 
-clash : {A : Type 0} {b : Bool} → b ≡ false → b ≡ true → A
+pub clash : {A : Type 0} {b : Bool} → b ≡ false → b ≡ true → A
 clash p q = absurd (let z : _≡_ {A = ℕ} 0 1 = cc in omega arith)
 
--- a byte write keeps the length and the kind
+-- a byte write keeps the length, the kind and the part
 kept-write : (kind : SaveType) (s : State) (a v : ℕ)
-    → (writeSave kind s a v .cart .len ≡ s .cart .len) × (writeSave kind s a v .cart .kind ≡ s .cart .kind)
+    → let c = writeSave kind s a v .cart in (c .len ≡ s .cart .len) × (c .kind ≡ s .cart .kind) × (c .part ≡ s .cart .part)
 unfolding writeSave
-kept-write kind s a v = (refl, refl)
+kept-write kind s a v = (refl, refl, refl)
 
 -- a chip that is not large behind a DMA announcement or a bit was not large before
 dma-large : (words : ℕ) (e : Eeprom) → beginDma words e .large ≡ false → e .large ≡ false
@@ -92,44 +94,49 @@ exported-next (some f) d s = refl
 abbrev pub NoByteWrite : SaveType → Call → Type 0
 NoByteWrite kind c = (a v : ℕ) → saveWrite a v ≡ c → usesEeprom kind ≡ false
 
-recoverable-accepted : (image : List ℕ) (c : Call) (d : List ℕ) (s : State) → NoByteWrite (detectSaveType image) c → Recoverable image s
-    → AllYes (questions c d s) → Recoverable image (accepted c d s .next)
+recoverable-accepted : (image : List ℕ) (part : ℕ) (c : Call) (d : List ℕ) (s : State) → NoByteWrite (detectSaveType image) c → Recoverable image part s
+    → AllYes (questions c d s) → Recoverable image part (accepted c d s .next)
 unfolding accepted questions load stored
-recoverable-accepted image (saveRead a) d s n r y = r
-recoverable-accepted image (saveWrite a v) d s n r y =
+recoverable-accepted image part (saveRead a) d s n r y = r
+recoverable-accepted image part (saveWrite a v) d s n r y =
     let k = kept-write (s .cart .kind) s a v in
     record {
       sound = unfold accepted questions load in sound-accepted (saveWrite a v) d s y (r .sound);
       lenIs = k .0 ∙ r .lenIs;
       kindIs = k .1 ∙ r .kindIs;
+      partIs = k .2 ∙ r .partIs;
       tail = λ q z. clash (n a v refl) (ap usesEeprom (sym (k .1 ∙ r .kindIs)) ∙ q);
     }
-recoverable-accepted image (eepromBeginDma words) d s n r y =
+recoverable-accepted image part (eepromBeginDma words) d s n r y =
     record {
       sound = sound-accepted (eepromBeginDma words) d s y (r .sound);
       lenIs = r .lenIs;
       kindIs = r .kindIs;
+      partIs = r .partIs;
       tail = λ q z. r .tail q (dma-large words (s .cart .chip .eeprom) z);
     }
-recoverable-accepted image (eepromWrite v) d s n r y =
+recoverable-accepted image part (eepromWrite v) d s n r y =
     record {
       sound = sound-accepted (eepromWrite v) d s y (r .sound);
       lenIs = r .lenIs;
       kindIs = r .kindIs;
+      partIs = r .partIs;
       tail = tail-bit s v (r .sound) (y .1 .1 .0) (r .tail);
     }
-recoverable-accepted image eepromRead d s n r y =
+recoverable-accepted image part eepromRead d s n r y =
     record {
       sound = sound-accepted eepromRead d s y (r .sound);
       lenIs = r .lenIs;
       kindIs = r .kindIs;
+      partIs = r .partIs;
       tail = λ q z. r .tail q (sym (read-large (s .cart .chip .eeprom)) ∙ z);
     }
-recoverable-accepted image (loadSave f) d s n r y =
+recoverable-accepted image part (loadSave f) d s n r y =
     record {
       sound = sound-accepted (loadSave f) d s y (r .sound);
       lenIs = r .lenIs;
       kindIs = r .kindIs;
+      partIs = r .partIs;
       tail = λ q z.
           let e = s .cart .chip .eeprom in
           let b : Bool = usesEeprom (s .cart .kind) && ltb 512 (length f) in
@@ -137,21 +144,22 @@ recoverable-accepted image (loadSave f) d s n r y =
           ∙ drop-filled (memorySize (s .cart .kind)) 512 f (omega (arith, eeprom-size (s .cart .kind) q))
           (ltb-false 512 (length f) (rw q at (or-true (e .large) b z .1)));
     }
-recoverable-accepted image saveData d s n r y = subst (Recoverable image) (sym (exported-next (fileOf (s .cart .kind) s) d s)) r
-recoverable-accepted image chipState d s n r y = r
-recoverable-accepted image takeSaveDirty d s n r y =
-    record { sound = sound-accepted takeSaveDirty d s y (r .sound); lenIs = r .lenIs; kindIs = r .kindIs; tail = r .tail }
+recoverable-accepted image part saveData d s n r y = subst (Recoverable image part) (sym (exported-next (fileOf (s .cart .kind) s) d s)) r
+recoverable-accepted image part chipState d s n r y = r
+recoverable-accepted image part takeSaveDirty d s n r y =
+    record { sound = sound-accepted takeSaveDirty d s y (r .sound); lenIs = r .lenIs; kindIs = r .kindIs; partIs = r .partIs; tail = r .tail }
 
-pub recoverable-step : (image : List ℕ) (c : Call) (d : List ℕ) (s : State) → NoByteWrite (detectSaveType image) c → Recoverable image s
-    → Recoverable image (step c d s .next)
-recoverable-step image c d s n r = step-next (Recoverable image) c d s (recoverable-accepted image c d s n r) r
+pub recoverable-step : (image : List ℕ) (part : ℕ) (c : Call) (d : List ℕ) (s : State) → NoByteWrite (detectSaveType image) c → Recoverable image part s
+    → Recoverable image part (step c d s .next)
+recoverable-step image part c d s n r = step-next (Recoverable image part) c d s (recoverable-accepted image part c d s n r) r
 
-pub recoverable-fresh : (image memory : List ℕ) → fromBytes image memory .refusal ≡ 0 → Recoverable image (fresh image)
+pub recoverable-fresh : (image : List ℕ) (part : ℕ) (memory : List ℕ) → fromBytes image part memory .refusal ≡ 0 → Recoverable image part (fresh image (partOf part))
 unfolding fresh freshCart
-recoverable-fresh image memory h =
+recoverable-fresh image part memory h =
     record {
-      sound = sound-fresh image memory h;
+      sound = sound-fresh image part memory h;
       lenIs = refl;
       kindIs = refl;
+      partIs = refl;
       tail = λ q z. drop-erased 512 (memorySize (detectSaveType image));
     }

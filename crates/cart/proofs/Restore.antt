@@ -1,7 +1,7 @@
 -- The 18 bytes through the calls. Assumes nothing.
 use mathlib.Core.Path.{_≡_, refl, ap, _∙_}
 use mathlib.Core.Logic.{_≢_}
-use mathlib.Core.Bool.{true}
+use mathlib.Core.Bool.{Bool, true, _&&_}
 use mathlib.Core.List.{List, []}
 use Prim.Native.Nat.{ℕ, _^_, _<_}
 use lib.Dec.{eqb}
@@ -11,8 +11,9 @@ use Rattle.lists.specs.Questions.{Question, asked, FirstNo}
 use Rattle.lists.proofs.Bools.{split, and-left, and-right}
 use Rattle.lists.proofs.Questions.{numbered, refused-first, all-yes, yes-all}
 use Rattle.image.specs.Image.{imageLength}
+use Rattle.part.specs.Part.{partFits}
 use Rattle.cart.specs.ChipState.{chipBytes, chipOf, fieldQuestions, stateQuestions}
-use Rattle.cart.specs.Record.{State, Outcome, outcome, recordAllowed}
+use Rattle.cart.specs.Record.{State, Outcome, outcome, chipAllowed, recordAllowed}
 use Rattle.cart.specs.Calls.{chipState, stateWith, restoreQuestions, questions, accepted, step, restore}
 use Rattle.cart.specs.Claims.{StateBytes}
 use Rattle.cart.proofs.ChipState.{own-questions, chip-back, bytes-back}
@@ -24,7 +25,7 @@ own-yes : (s : State) → recordAllowed (s .cart) ≡ true → asked (stateQuest
 unfolding recordAllowed
 own-yes s h =
     let n : ℕ = asked (fieldQuestions (chipBytes (s .cart .chip))) in
-    own-questions (s .cart .chip) (eqb-true n 0 (and-right (imageLength (s .cart .len)) (eqb n 0) h))
+    own-questions (s .cart .chip) (eqb-true n 0 (and-right (imageLength (s .cart .len) && partFits (s .cart .part) (s .cart .kind)) (eqb n 0) h))
 
 bytes-given : (s : State) → recordAllowed (s .cart) ≡ true → step chipState [] s .given ≡ chipBytes (s .cart .chip)
 unfolding questions accepted
@@ -60,7 +61,10 @@ state-yes b s e = all-yes (stateQuestions b) (yes-all (restoreQuestions b s) (nu
 pub restored-allowed : (b : List ℕ) (s : State) → areBytes b ≡ true → recordAllowed (s .cart) ≡ true → asked (stateQuestions b) ≡ 0 → recordAllowed (restoring b s .cart) ≡ true
 unfolding recordAllowed
 restored-allowed b s a h e =
-    rw (bytes-back b a (state-size b e) (state-fields b e), state-fields b e, and-left (imageLength (s .cart .len)) (eqb (asked (fieldQuestions (chipBytes (s .cart .chip)))) 0) h)
+    let l : Bool = imageLength (s .cart .len) in
+    let p : Bool = partFits (s .cart .part) (s .cart .kind) in
+    let k = and-left (l && p) (chipAllowed (s .cart .chip)) h in
+    rw (bytes-back b a (state-size b e) (state-fields b e), state-fields b e, and-left l p k, and-right l p k)
 
 writes-back : (b : List ℕ) (s : State) → areBytes b ≡ true → restore b s .refusal ≡ 0 → step chipState [] (restore b s .next) .given ≡ b
 writes-back b s a h =

@@ -20,6 +20,7 @@ use Rattle.image.specs.Image.{imageLength}
 use Rattle.kind.specs.declared.SaveType.{SaveType}
 use Rattle.kind.specs.declared.SaveType.the-variants.{None, Sram, Flash64, Flash128, Eeprom512, Eeprom8k}
 use Rattle.kind.specs.Kind.{memorySize, usesEeprom, detectSaveType}
+use Rattle.part.specs.Part.{partOf, partFits}
 use Rattle.flash.specs.Flash.{stateAllowed}
 use Rattle.eeprom.specs.declared.EepromPhase.{EepromPhase}
 use Rattle.eeprom.specs.declared.EepromPhase.the-variants.{Opcode, ReadAddress, WriteAddress, WriteData, ReadStop, WriteStop, Reading}
@@ -81,8 +82,8 @@ abbrev memoryFrom : List ℕ → Option (List ℕ) → List ℕ
 memoryFrom m none = m
 memoryFrom m (some f) = filled (length m) f
 
-eeprom-back : (image : List ℕ) (s : State) → usesEeprom (s .cart .kind) ≡ true → Recoverable image s → filled (memorySize (s .cart .kind)) (eepromFile s) ≡ s .memory
-eeprom-back image s u r =
+eeprom-back : (image : List ℕ) (part : ℕ) (s : State) → usesEeprom (s .cart .kind) ≡ true → Recoverable image part s → filled (memorySize (s .cart .kind)) (eepromFile s) ≡ s .memory
+eeprom-back image part s u r =
     let n : ℕ = memorySize (s .cart .kind) in
     let m = r .sound .memoryOk in
     let e = eeprom-size (s .cart .kind) u in
@@ -95,13 +96,13 @@ both-empty [] [] e f = refl
 both-empty [] (x ∷ m) e f = absurd (omega arith)
 both-empty (x ∷ l) m e f = absurd (omega arith)
 
-module _ (image : List ℕ) (s : State) (r : Recoverable image s) (m : List ℕ) where
+module _ (image : List ℕ) (part : ℕ) (s : State) (r : Recoverable image part s) (m : List ℕ) where
   -- of the length n
   whole-back : (n : ℕ) → memorySize (s .cart .kind) ≡ n → length m ≡ n → filled (length m) (s .memory) ≡ s .memory
   whole-back n e l = filled-whole (length m) (s .memory) (r .sound .memoryOk ∙ e ∙ sym l)
 
   serial-back : usesEeprom (s .cart .kind) ≡ true → length m ≡ memorySize (s .cart .kind) → filled (length m) (eepromFile s) ≡ s .memory
-  serial-back u l = ap (λ (n : ℕ). filled n (eepromFile s)) l ∙ eeprom-back image s u r
+  serial-back u l = ap (λ (n : ℕ). filled n (eepromFile s)) l ∙ eeprom-back image part s u r
 
   memory-back : (kind : SaveType) → s .cart .kind ≡ kind → length m ≡ memorySize kind → memoryFrom m (fileOf kind s) ≡ s .memory
   unfolding fileOf
@@ -170,8 +171,11 @@ pub load-allowed : (f : List ℕ) (t : State) → recordAllowed (t .cart) ≡ tr
 unfolding recordAllowed load
 load-allowed f t a =
     let l : Bool = imageLength (t .cart .len) in
+    let p : Bool = partFits (t .cart .part) (t .cart .kind) in
     let c : ChipRecord = t .cart .chip in
-    rw (and-left l (chipAllowed c) a) (large-allowed c (usesEeprom (t .cart .kind) && ltb 512 (length f)) (and-right l (chipAllowed c) a))
+    let b = and-left (l && p) (chipAllowed c) a in
+    rw (and-left l p b, and-right l p b)
+    (large-allowed c (usesEeprom (t .cart .kind) && ltb 512 (length f)) (and-right (l && p) (chipAllowed c) a))
 
 -- loading: some chip record that is allowed, and the memory that the file holds
 pub load-next : (f : List ℕ) (t : State) → recordAllowed (t .cart) ≡ true → eqb (length (t .memory)) (memorySize (t .cart .kind)) ≡ true → step (loadSave f) [] t .next ≡ load t f
@@ -201,8 +205,8 @@ acc-lt s k =
     omega (arith, pow-mono n, k .eepromOk .serialOk .accOk)
 
 -- the state s made anew of a cartridge of the image, whose flag stays
-pub resumed-is : (image : List ℕ) (s t : State) → Recoverable image s → Open image t → resumed s t ≡ withFlag (t .cart .dirty) s
-resumed-is image s t r q =
+pub resumed-is : (image : List ℕ) (part : ℕ) (s t : State) → Recoverable image part s → Open image part t → resumed s t ≡ withFlag (t .cart .dirty) s
+resumed-is image part s t r q =
     let k = r .sound in
     let a = record-allowed s k in
     let b : List ℕ = chipBytes (s .cart .chip) in
@@ -210,47 +214,47 @@ resumed-is image s t r q =
     let o : Option (List ℕ) = fileOf kind s in
     let x = loaded o t (q .allowed) (eq-eqb _ _ (q .memoryOk)) in
     let c = chip-back (s .cart .chip) (acc-lt s k) in
-    let m = memory-back image s r (t .memory) kind (r .kindIs) (q .memoryOk ∙ ap memorySize (q .kindIs)) in
+    let m = memory-back image part s r (t .memory) kind (r .kindIs) (q .memoryOk ∙ ap memorySize (q .kindIs)) in
     ap₂ (λ (l : List ℕ) (f : Option (List ℕ)). restore l (reloaded f t) .next) (bytes-left s a) (file-left s a (memory-fits s k) ∙ ap (λ (i : SaveType). fileOf i s) (r .kindIs))
     ∙ restore-next b (reloaded o t) (x .allowed) (own-questions (s .cart .chip) (chip-allowed (s .cart .chip) (k .flashOk) (k .eepromOk)))
     ∙ ap (restoring b) (x .is)
     ∙ (λ i.
     record {
-      cart = record { len = (q .lenIs ∙ sym (r .lenIs)) i; kind = (q .kindIs ∙ sym (r .kindIs)) i; dirty = t .cart .dirty; chip = c i };
+      cart = record { len = (q .lenIs ∙ sym (r .lenIs)) i; kind = (q .kindIs ∙ sym (r .kindIs)) i; part = (q .partIs ∙ sym (r .partIs)) i; dirty = t .cart .dirty; chip = c i };
       memory = m i;
     })
 
-pub open-fresh : (image : List ℕ) → Sound (fresh image) → Open image (fresh image)
+pub open-fresh : (image : List ℕ) (part : ℕ) → Sound (fresh image (partOf part)) → Open image part (fresh image (partOf part))
 unfolding fresh freshCart
-open-fresh image k =
-    record { lenIs = refl; kindIs = refl; allowed = unfold fresh freshCart in record-allowed (fresh image) k; memoryOk = k .memoryOk }
+open-fresh image part k =
+    record { lenIs = refl; kindIs = refl; partIs = refl; allowed = unfold fresh freshCart in record-allowed (fresh image (partOf part)) k; memoryOk = k .memoryOk }
 
 -- the state without its flag
 abbrev pub quiet : State → State
 quiet s = withFlag false s
 
 -- a cut loses the flag, and nothing else
-pub cut-quiet : (image memory : List ℕ) (s : State) → fromBytes image memory .refusal ≡ 0 → Recoverable image s → cut image memory s ≡ quiet s
+pub cut-quiet : (image : List ℕ) (part : ℕ) (memory : List ℕ) (s : State) → fromBytes image part memory .refusal ≡ 0 → Recoverable image part s → cut image part memory s ≡ quiet s
 unfolding cut fresh freshCart
-cut-quiet image memory s h r =
-    ap (λ (o : Outcome). resumed s (o .next)) (opened image memory h)
-    ∙ resumed-is image s (fresh image) r (open-fresh image (sound-fresh image memory h))
+cut-quiet image part memory s h r =
+    ap (λ (o : Outcome). resumed s (o .next)) (opened image part memory h)
+    ∙ resumed-is image part s (fresh image (partOf part)) r (open-fresh image part (sound-fresh image part memory h))
 
 -- after a list of calls
-recoverable-calls : (image : List ℕ) (list : List Call) (s : State)
+recoverable-calls : (image : List ℕ) (part : ℕ) (list : List Call) (s : State)
     → ((a v : ℕ) → List·Memᴰ (saveWrite a v) list → usesEeprom (detectSaveType image) ≡ false)
-    → Recoverable image s → Recoverable image (calls list s .last)
+    → Recoverable image part s → Recoverable image part (calls list s .last)
 unfolding calls
-recoverable-calls image [] s n r = r
-recoverable-calls image (c ∷ list) s n r =
-    recoverable-calls image list (step c [] s .next) (λ a v p. n a v (List·Memᴰ·tail p))
-    (recoverable-step image c [] s (λ a v p. n a v (List·Memᴰ·head p)) r)
+recoverable-calls image part [] s n r = r
+recoverable-calls image part (c ∷ list) s n r =
+    recoverable-calls image part list (step c [] s .next) (λ a v p. n a v (List·Memᴰ·tail p))
+    (recoverable-step image part c [] s (λ a v p. n a v (List·Memᴰ·head p)) r)
 
 pub resumes : Resumes
-resumes image memory list t h n q =
-    let s0 : State = fromBytes image memory .next in
+resumes image part memory list t h n q =
+    let s0 : State = fromBytes image part memory .next in
     let s : State = calls list s0 .last in
-    let r0 : Recoverable image s0 = rw (opened image memory h) (recoverable-fresh image memory h) in
-    let r : Recoverable image s = recoverable-calls image list s0 n r0 in
-    let e = resumed-is image s t r q in
-    (e, e ∙ ap (withFlag (t .cart .dirty)) (sym (cut-quiet image memory s h r)))
+    let r0 : Recoverable image part s0 = rw (opened image part memory h) (recoverable-fresh image part memory h) in
+    let r : Recoverable image part s = recoverable-calls image part list s0 n r0 in
+    let e = resumed-is image part s t r q in
+    (e, e ∙ ap (withFlag (t .cart .dirty)) (sym (cut-quiet image part memory s h r)))

@@ -6,11 +6,11 @@ use mathlib.Core.Option.{Option, none, some}
 use Prim.Native.Nat.{ℕ, _*_, _%_, _<_}
 use native.Mathlib.Nat.{mod-lt}
 use native.Mathlib.Omega.{arith}
-use lib.Dec.{eqb}
+use lib.Dec.{leb, eqb}
 use lib.ListN.{length, set, length-set}
 use borrow.Author.Tests.{eqb-true, eq-eqb}
 use Rattle.lists.specs.Questions.{asked}
-use Rattle.lists.proofs.Bools.{split}
+use Rattle.lists.proofs.Bools.{split, and-right}
 use Rattle.lists.proofs.Questions.{AllYes, numbered, all-yes, yes-all}
 use Rattle.memory.specs.declared.Store.{Store}
 use Rattle.memory.specs.declared.Store.the-variants.{Nothing, Byte, Block, Sector, Chip, File}
@@ -20,6 +20,8 @@ use Rattle.image.specs.Image.{imageLength}
 use Rattle.kind.specs.declared.SaveType.{SaveType}
 use Rattle.kind.specs.declared.SaveType.the-variants.{None, Sram, Flash64, Flash128, Eeprom512, Eeprom8k}
 use Rattle.kind.specs.Kind.{memorySize, usesEeprom, detectSaveType}
+use Rattle.part.specs.declared.Part.{Part}
+use Rattle.part.specs.Part.{partOf, partFits}
 use Rattle.flash.specs.declared.Flash.{Flash}
 use Rattle.flash.specs.Flash.{place, writeByte, stateAllowed}
 use Rattle.flash.proofs.Sound as flash
@@ -33,9 +35,10 @@ use Rattle.cart.specs.Calls.{Call, saveRead, saveWrite, eepromBeginDma, 
 use Rattle.cart.specs.Calls.{stateWith, flashOf, withFlash, eepromOf, withEeprom, withChip, writeSave, load, fileOf, exported, questions, accepted, step}
 use Rattle.cart.proofs.ChipState.{chip-allowed}
 
--- image length, memory length and flash chip are right, and E holds of the serial chip
+-- image length, part, memory length and flash chip are right, and E holds of the serial chip
 pub record SoundBy (E : Eeprom → Type 0) (s : State) : Type 0 where
   pub lenOk : imageLength (s .cart .len) ≡ true
+  pub partOk : partFits (s .cart .part) (s .cart .kind) ≡ true
   pub memoryOk : length (s .memory) ≡ memorySize (s .cart .kind)
   pub flashOk : flash.Sound (s .cart .chip .flash)
   pub eepromOk : E (s .cart .chip .eeprom)
@@ -55,7 +58,7 @@ pub record Keeps (E : Eeprom → Type 0) : Type 0 where
 -- questions 2 and 3 are answered yes
 pub record-allowed : (s : State) → Sound s → recordAllowed (s .cart) ≡ true
 unfolding recordAllowed
-record-allowed s k = rw (k .lenOk, chip-allowed (s .cart .chip) (k .flashOk) (k .eepromOk))
+record-allowed s k = rw (k .lenOk, k .partOk, chip-allowed (s .cart .chip) (k .flashOk) (k .eepromOk))
 
 pub memory-fits : (s : State) → Sound s → eqb (length (s .memory)) (memorySize (s .cart .kind)) ≡ true
 memory-fits s k = eq-eqb (length (s .memory)) (memorySize (s .cart .kind)) (k .memoryOk)
@@ -91,6 +94,7 @@ module _ {E : Eeprom → Type 0} where
       let w = flash.way f (length (s .memory)) a v in
       record {
         lenOk = k .lenOk;
+        partOk = k .partOk;
         memoryOk = length-stored _ [] (s .memory) (flash.fits-way (length (s .memory)) n l (place-lt f (length (s .memory)) a (omega arith)) w) ∙ k .memoryOk;
         flashOk = flash.sound-way (k .flashOk) w;
         eepromOk = k .eepromOk;
@@ -98,7 +102,7 @@ module _ {E : Eeprom → Type 0} where
 
   byte-by : (s : State) (dirty : Bool) (p v : ℕ) → SoundBy E s → SoundBy E (stateWith s dirty (s .cart .chip) (set (s .memory) p v))
   byte-by s dirty p v k =
-      record { lenOk = k .lenOk; memoryOk = length-set (s .memory) p v ∙ k .memoryOk; flashOk = k .flashOk; eepromOk = k .eepromOk }
+      record { lenOk = k .lenOk; partOk = k .partOk; memoryOk = length-set (s .memory) p v ∙ k .memoryOk; flashOk = k .flashOk; eepromOk = k .eepromOk }
 
   write-by : (kind : SaveType) (s : State) (a v : ℕ) → s .cart .kind ≡ kind → SoundBy E s → SoundBy E (writeSave kind s a v)
   unfolding writeSave writeStep writeByte stored
@@ -111,7 +115,7 @@ module _ {E : Eeprom → Type 0} where
 
   -- the chip record alone is new
   chip-by : (s : State) (e : Eeprom) → SoundBy E s → E e → SoundBy E (withChip s e)
-  chip-by s e k h = record { lenOk = k .lenOk; memoryOk = k .memoryOk; flashOk = k .flashOk; eepromOk = h }
+  chip-by s e k h = record { lenOk = k .lenOk; partOk = k .partOk; memoryOk = k .memoryOk; flashOk = k .flashOk; eepromOk = h }
 
   export-by : (f : Option (List ℕ)) (d : List ℕ) (s : State) → SoundBy E s → SoundBy E (exported f d s .next)
   export-by none d s k = k
@@ -125,6 +129,7 @@ module _ {E : Eeprom → Type 0} (keep : Keeps E) where
       let h = keep .block e (k .eepromOk) in
       record {
         lenOk = k .lenOk;
+        partOk = k .partOk;
         memoryOk =
             length-stored _ [] (s .memory) (write-fits (length (s .memory)) e (v % 2) (omega (arith, k .memoryOk, eeprom-size (s .cart .kind) u)))
             ∙ k .memoryOk;
@@ -142,13 +147,14 @@ module _ {E : Eeprom → Type 0} (keep : Keeps E) where
   accepted-by (loadSave f) d s y k =
       record {
         lenOk = k .lenOk;
+        partOk = k .partOk;
         memoryOk = length-filled (length (s .memory)) f ∙ k .memoryOk;
         flashOk = k .flashOk;
         eepromOk = keep .loaded (s .cart .chip .eeprom) _ (k .eepromOk);
       }
   accepted-by saveData d s y k = export-by (fileOf (s .cart .kind) s) d s k
   accepted-by chipState d s y k = k
-  accepted-by takeSaveDirty d s y k = record { lenOk = k .lenOk; memoryOk = k .memoryOk; flashOk = k .flashOk; eepromOk = k .eepromOk }
+  accepted-by takeSaveDirty d s y k = record { lenOk = k .lenOk; partOk = k .partOk; memoryOk = k .memoryOk; flashOk = k .flashOk; eepromOk = k .eepromOk }
 
 sound-keeps : Keeps eeprom.Sound
 sound-keeps =
@@ -194,27 +200,31 @@ pub sound-step : (c : Call) (d : List ℕ) (s : State) → Sound s → Sound (st
 sound-step c d s k = step-by sound-keeps c d s k
 
 -- an accepted opening
-opened-yes : (image memory : List ℕ) → fromBytes image memory .refusal ≡ 0 → asked (openQuestions image memory) ≡ 0
+opened-yes : (image : List ℕ) (part : ℕ) (memory : List ℕ) → fromBytes image part memory .refusal ≡ 0 → asked (openQuestions image part memory) ≡ 0
 unfolding fromBytes
-opened-yes image memory =
-    let n : ℕ = asked (openQuestions image memory) in
+opened-yes image part memory =
+    let n : ℕ = asked (openQuestions image part memory) in
     split (λ (o : Outcome). o .refusal ≡ 0 → n ≡ 0) (eqb n 0) (λ e h. eqb-true n 0 e) (λ e h. h)
 
-pub opened : (image memory : List ℕ) → fromBytes image memory .refusal ≡ 0 → fromBytes image memory ≡ outcome [] (fresh image) []
+pub opened : (image : List ℕ) (part : ℕ) (memory : List ℕ) → fromBytes image part memory .refusal ≡ 0 → fromBytes image part memory ≡ outcome [] (fresh image (partOf part)) []
 unfolding fromBytes
-opened image memory h = rw (opened-yes image memory h)
+opened image part memory h = rw (opened-yes image part memory h)
 
-pub sound-kind : (n : ℕ) (kind : SaveType) → imageLength n ≡ true → Sound (record { cart = freshCart n kind; memory = erased (memorySize kind) })
+pub sound-kind : (n : ℕ) (kind : SaveType) (part : Part) → imageLength n ≡ true → partFits part kind ≡ true
+    → Sound (record { cart = freshCart n kind part; memory = erased (memorySize kind) })
 unfolding freshCart stateAllowed
-sound-kind n kind h =
+sound-kind n kind part h p =
     record {
       lenOk = h;
+      partOk = p;
       memoryOk = length-erased (memorySize kind);
       flashOk = record { stateOk = refl; bankOk = omega arith };
       eepromOk = eeprom.sound-fresh _;
     }
 
-pub sound-fresh : (image memory : List ℕ) → fromBytes image memory .refusal ≡ 0 → Sound (fresh image)
+pub sound-fresh : (image : List ℕ) (part : ℕ) (memory : List ℕ) → fromBytes image part memory .refusal ≡ 0 → Sound (fresh image (partOf part))
 unfolding fresh
-sound-fresh image memory h =
-    sound-kind (length image) (detectSaveType image) (yes-all (openQuestions image memory) refl (opened-yes image memory h) .0)
+sound-fresh image part memory h =
+    let kind : SaveType = detectSaveType image in
+    let y = yes-all (openQuestions image part memory) refl (opened-yes image part memory h) in
+    sound-kind (length image) kind (partOf part) (y .0) (and-right (leb part 5) (partFits (partOf part) kind) (y .1 .1 .0))

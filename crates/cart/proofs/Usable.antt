@@ -1,15 +1,16 @@
 -- Valid records with a memory of their kind's length. Assumes nothing.
 use mathlib.Core.Path.{_≡_, _∙_}
-use mathlib.Core.Bool.{true}
+use mathlib.Core.Bool.{Bool, true, _&&_}
 use mathlib.Core.List.{List, []}
 use Prim.Native.Nat.{ℕ}
 use native.Mathlib.Omega.{arith}
 use lib.Dec.{eqb}
 use lib.ListN.{length}
 use borrow.Author.Tests.{le-leb, lt-ltb, eq-eqb}
-use Rattle.lists.proofs.Bools.{and-left}
+use Rattle.lists.proofs.Bools.{and-left, and-right}
 use Rattle.image.specs.Image.{imageLength}
 use Rattle.kind.specs.Kind.{memorySize}
+use Rattle.part.specs.Part.{partFits}
 use Rattle.eeprom.specs.Eeprom.{wOf, countLimit}
 use Rattle.eeprom.proofs.Allowed.{Allowed, allowed-bit, allowed-read, allowed-dma, allowed-load}
 use Rattle.cart.specs.Record.{State, chipAllowed, recordAllowed}
@@ -19,12 +20,16 @@ use Rattle.cart.proofs.Fields.{chip-fields, allowed-bounds}
 use Rattle.cart.proofs.Sound.{SoundBy, Keeps, accepted-by, step-by}
 
 -- the same, field by field
-to-fields : (s : State) → Usable s → SoundBy Allowed s
+pub to-fields : (s : State) → Usable s → SoundBy Allowed s
 unfolding recordAllowed
 to-fields s u =
     let b = allowed-bounds (s .cart) (u .valid) in
+    let l : Bool = imageLength (s .cart .len) in
+    let p : Bool = partFits (s .cart .part) (s .cart .kind) in
+    let k = and-left (l && p) (chipAllowed (s .cart .chip)) (u .valid) in
     record {
-      lenOk = and-left (imageLength (s .cart .len)) (chipAllowed (s .cart .chip)) (u .valid);
+      lenOk = and-left l p k;
+      partOk = and-right l p k;
       memoryOk = u .memoryOk;
       flashOk = record { stateOk = b .stateOk; bankOk = b .bankOk };
       eepromOk = record { widthOk = b .widthOk; countOk = b .limitOk; blockOk = b .blockOk; placeOk = b .placeOk };
@@ -40,7 +45,7 @@ of-fields s k =
     let r = o .placeOk in
     record {
       valid =
-          rw (k .lenOk)
+          rw (k .lenOk, k .partOk)
           (chip-fields c
           ∙ rw (
             k .flashOk .stateOk,

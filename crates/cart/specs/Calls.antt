@@ -39,7 +39,10 @@ pub data Call : Type 0 where
 -- the state s with another flag, chip record and memory
 abbrev pub stateWith : State → Bool → ChipRecord → List ℕ → State
 stateWith s dirty chip memory =
-    record { cart = record { len = s .cart .len; kind = s .cart .kind; dirty = dirty; chip = chip }; memory = memory }
+    record {
+      cart = record { len = s .cart .len; kind = s .cart .kind; part = s .cart .part; dirty = dirty; chip = chip };
+      memory = memory;
+    }
 
 -- each chip with the memory and the flag, and the state after a step of it
 abbrev pub flashOf : State → Held Flash
@@ -59,7 +62,7 @@ withChip s e = withEeprom s (record { chip = e; memory = s .memory; dirty = s .c
 
 -- Bytes (`save_read`, `save_write`), by the kind
 unfoldable pub readSave : SaveType → State → ℕ → ℕ
-readSave kind s a = readByte kind (s .cart .chip .flash) (s .memory) a
+readSave kind s a = readByte kind (s .cart .part) (s .cart .chip .flash) (s .memory) a
 
 unfoldable pub writeSave : SaveType → State → ℕ → ℕ → State
 writeSave kind s a v = withFlash s (afterWrite kind (flashOf s) a v)

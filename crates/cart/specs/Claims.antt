@@ -1,13 +1,15 @@
--- What is claimed of the 18 bytes and of the changed flag.
+-- What is claimed of the 18 bytes, of the changed flag and of the part.
 use mathlib.Core.Path.{_≡_}
 use mathlib.Core.Logic.{_≢_}
-use mathlib.Core.Bool.{true}
+use mathlib.Core.Bool.{true, false}
 use mathlib.Core.List.{List, []}
 use Prim.Native.Nat.{ℕ, _^_, _<_}
 use lib.Pow.{areBytes}
 use Rattle.lists.specs.Questions.{FirstNo}
-use Rattle.cart.specs.Record.{State, outcome, recordAllowed}
-use Rattle.cart.specs.Calls.{Call, loadSave, chipState, takeSaveDirty, restoreQuestions, step, restore, importSave}
+use Rattle.part.specs.declared.Part.{Part}
+use Rattle.part.specs.Part.{partOf, partFits}
+use Rattle.cart.specs.Record.{State, Outcome, outcomeOf, outcome, recordAllowed, fromBytes}
+use Rattle.cart.specs.Calls.{Call, saveRead, loadSave, chipState, takeSaveDirty, restoreQuestions, step, restore, importSave}
 
 -- demand 2: "Each record that `chip_state` writes is restored to itself; bytes that restore accepts are written
 -- back unchanged."
@@ -27,3 +29,28 @@ pub record FlagKept : Type 0 where
   pub load : (f d : List ℕ) (s : State) → step (loadSave f) d s .next .cart .dirty ≡ s .cart .dirty
   pub restored : (b : List ℕ) (s : State) → restore b s .next .cart .dirty ≡ s .cart .dirty
   pub imported : (f : List ℕ) (s : State) → importSave f s .next .cart .dirty ≡ s .cart .dirty
+
+-- a state, and an outcome's, with another part
+abbrev pub withPart : Part → State → State
+withPart p s =
+    let c = s .cart in
+    record {
+      cart = record { len = c .len; kind = c .kind; part = p; dirty = c .dirty; chip = c .chip };
+      memory = s .memory;
+    }
+
+abbrev pub outcomeWith : Part → Outcome → Outcome
+outcomeWith p o = outcomeOf (o .refusal) (o .given) (o .flag) (withPart p (o .next)) (o .destination)
+
+-- the part is the one that opening was given: no call, restore or import touches it; and whichever part fits, each call
+-- but a byte read in ID mode answers and does the same
+pub record PartKept : Type 0 where
+  pub opened : (image : List ℕ) (part : ℕ) (memory : List ℕ) → fromBytes image part memory .refusal ≡ 0
+      → fromBytes image part memory .next .cart .part ≡ partOf part
+  pub stays : (c : Call) (d : List ℕ) (s : State) → step c d s .next .cart .part ≡ s .cart .part
+  pub restored : (b : List ℕ) (s : State) → restore b s .next .cart .part ≡ s .cart .part
+  pub imported : (f : List ℕ) (s : State) → importSave f s .next .cart .part ≡ s .cart .part
+  pub unseen : (p : Part) (c : Call) (d : List ℕ) (s : State)
+      → partFits p (s .cart .kind) ≡ partFits (s .cart .part) (s .cart .kind)
+      → ((a : ℕ) → c ≡ saveRead a → s .cart .chip .flash .id ≡ false)
+      → step c d (withPart p s) ≡ outcomeWith p (step c d s)

@@ -22,7 +22,7 @@ fileLeft s = let o = step saveData (replicate (length (s .memory)) 0) s in fileI
 unfoldable pub bytesLeft : State → List ℕ
 bytesLeft s = step chipState [] s .given
 
--- "Then: open the same image, load the file where there is one, restore."
+-- "Then: open the same image, load the file where there is one, restore."; the opening is given the same part
 abbrev pub reloaded : Option (List ℕ) → State → State
 reloaded none s = s
 reloaded (some f) s = step (loadSave f) [] s .next
@@ -31,12 +31,12 @@ reloaded (some f) s = step (loadSave f) [] s .next
 abbrev pub resumed : State → State → State
 resumed s t = restore (bytesLeft s) (reloaded (fileLeft s) t) .next
 
-unfoldable pub cut : List ℕ → List ℕ → State → State
-cut image memory s = resumed s (fromBytes image memory .next)
+unfoldable pub cut : List ℕ → ℕ → List ℕ → State → State
+cut image part memory s = resumed s (fromBytes image part memory .next)
 
-unfoldable pub cuts : List ℕ → List ℕ → ℕ → State → State
-cuts image memory zero s = s
-cuts image memory (suc n) s = cuts image memory n (cut image memory s)
+unfoldable pub cuts : List ℕ → ℕ → List ℕ → ℕ → State → State
+cuts image part memory zero s = s
+cuts image part memory (suc n) s = cuts image part memory n (cut image part memory s)
 
 -- "A cut falls behind a call": a call of the list, the destination that comes with it, and how many cuts fall behind it
 pub record Turn : Type 0 where
@@ -65,22 +65,22 @@ before o r =
       bytes = r .bytes;
     }
 
-unfoldable pub run : List ℕ → List ℕ → List Turn → State → Compared
-run image memory [] s = record { calls = []; file = fileLeft s; bytes = bytesLeft s }
-run image memory (t ∷ list) s =
+unfoldable pub run : List ℕ → ℕ → List ℕ → List Turn → State → Compared
+run image part memory [] s = record { calls = []; file = fileLeft s; bytes = bytesLeft s }
+run image part memory (t ∷ list) s =
     let o = step (t .call) (t .destination) s in
-    before o (run image memory list (cuts image memory (t .cutsBehind) (o .next)))
+    before o (run image part memory list (cuts image part memory (t .cutsBehind) (o .next)))
 
 -- the list without its cuts
 abbrev pub uncut : List Turn → List Turn
 uncut = map (λ t. record { call = t .call; destination = t .destination; cutsBehind = 0 })
 
--- demand 3: from a fresh cartridge, with "no byte write to an EEPROM cartridge"; "It is one claim about the whole
+-- demand 3: from a fresh cartridge with any part, with "no byte write to an EEPROM cartridge"; "It is one claim about the whole
 -- list with all its cuts."
 abbrev pub CutRuns : Type 0
 CutRuns =
-    (image memory : List ℕ) (list : List Turn)
-    → fromBytes image memory .refusal ≡ 0
+    (image : List ℕ) (part : ℕ) (memory : List ℕ) (list : List Turn)
+    → fromBytes image part memory .refusal ≡ 0
     → ((a v : ℕ) → List·Memᴰ (saveWrite a v) (map (λ t. t .call) list) → usesEeprom (detectSaveType image) ≡ false)
-    → run image memory list (fromBytes image memory .next)
-    ≡ run image memory (uncut list) (fromBytes image memory .next)
+    → run image part memory list (fromBytes image part memory .next)
+    ≡ run image part memory (uncut list) (fromBytes image part memory .next)

@@ -10,7 +10,8 @@ use Rattle.lists.specs.Lists.{digits, withPart}
 use Rattle.kind.specs.declared.SaveType.{SaveType}
 use Rattle.kind.specs.declared.SaveType.the-variants.{Sram, Flash64, Flash128}
 use Rattle.kind.specs.Kind.{memorySize, usesEeprom}
-use Rattle.flash.specs.Flash.{flashRead}
+use Rattle.part.specs.declared.Part.{Part}
+use Rattle.part.specs.declared.Part.the-variants.{Usual, Sst64, Macronix64, Panasonic64, Sanyo128, Macronix128}
 use Rattle.flash.specs.Gbatek as flash
 use Rattle.flash.specs.Gbatek.{Write, At, gbatek, bus, written, program, placeOf, base}
 use Rattle.eeprom.specs.declared.EepromPhase.the-variants.{Opcode}
@@ -59,19 +60,29 @@ pub record SramBytes (s : State) : Type 0 where
 abbrev pub SramClaim : Type 0
 SramClaim = (s : State) → Usable s → s .cart .kind ≡ Sram → SramBytes s
 
--- flash: "64K .. Panasonic 1B32h .. 128K Sanyo 1362h"
-pub data FlashPart : SaveType → ℕ → Type 0 where
-  panasonic64K : FlashPart Flash64 0x1b32
-  sanyo128K : FlashPart Flash128 0x1362
+-- flash: "ID words, device in the high byte, maker in the low: 64K SST D4BFh, Macronix 1CC2h, Panasonic 1B32h .. 128K
+-- Sanyo 1362h, Macronix 09C2h". Kind, part, maker and device; the usual parts are Panasonic's and Sanyo's
+pub data FlashPart : SaveType → Part → ℕ → ℕ → Type 0 where
+  sst64K : FlashPart Flash64 Sst64 0xbf 0xd4
+  macronix64K : FlashPart Flash64 Macronix64 0xc2 0x1c
+  panasonic64K : FlashPart Flash64 Panasonic64 0x32 0x1b
+  usual64K : FlashPart Flash64 Usual 0x32 0x1b
+  sanyo128K : FlashPart Flash128 Sanyo128 0x62 0x13
+  macronix128K : FlashPart Flash128 Macronix128 0xc2 0x09
+  usual128K : FlashPart Flash128 Usual 0x62 0x13
 
 abbrev pub writes : List Write → List Call
 writes = map (λ w. saveWrite (w .address) (w .value))
 
--- every list of writes is accepted and does what it does to the chip; a byte read shows what the chip shows; where
--- the chip awaits a command, `does` has what each command does to it, and a read gives what the last write stored
-pub record FlashCommands (word : ℕ) (s : State) : Type 0 where
+-- every list of writes is accepted and does what it does to the chip; a byte read shows the memory or, in ID mode, the
+-- maker at even addresses and the device at odd ones; where the chip awaits a command, `does` has what each command does
+-- to it, and a read gives what the last write stored
+pub record FlashCommands (maker device : ℕ) (s : State) : Type 0 where
   pub accepts : (ws : List Write) → calls (writes ws) s ≡ ran [] (withFlash s (written ws (flashOf s)))
-  pub shows : (a : ℕ) → calls (saveRead a ∷ []) s ≡ ran (flashRead word (s .cart .chip .flash) (s .memory) a ∷ []) s
+  pub shows : s .cart .chip .flash .id ≡ false
+      → (a : ℕ) → calls (saveRead a ∷ []) s ≡ ran (getD (s .memory) (placeOf (flashOf s) a) 0 ∷ []) s
+  pub identifies : s .cart .chip .flash .id ≡ true
+      → (a : ℕ) → calls (saveRead a ∷ []) s ≡ ran (cond (eqb (a % 2) 0) maker device ∷ []) s
   pub does : s .cart .chip .flash .state ≡ 0 → flash.Commands (flashOf s) × flash.GbatekCommands (flashOf s)
   pub programRead : s .cart .chip .flash .state ≡ 0 → s .cart .chip .flash .id ≡ false
       → (t : At) (a v c : ℕ)
@@ -84,7 +95,9 @@ pub record FlashCommands (word : ℕ) (s : State) : Type 0 where
       ≡ cond (eqb c a) v (getD (s .memory) (base (flashOf s) + c) 0) ∷ []
 
 abbrev pub FlashClaim : Type 0
-FlashClaim = (word : ℕ) (s : State) → Usable s → FlashPart (s .cart .kind) word → FlashCommands word s
+FlashClaim =
+    (maker device : ℕ) (s : State) → Usable s → FlashPart (s .cart .kind) (s .cart .part) maker device
+    → FlashCommands maker device s
 
 -- serial EEPROM: every list of halfwords in, and any number of bits out, is accepted and does what it does to the chip
 pub record SerialBits (s : State) : Type 0 where
@@ -138,16 +151,25 @@ SerialClaim =
 -- a state that a list of calls reaches from a fresh cartridge
 pub record Reached (s : State) : Type 0 where
   pub image : List ℕ
+  pub part : ℕ
   pub memory : List ℕ
   pub list : List Call
-  pub opens : fromBytes image memory .refusal ≡ 0
-  pub leads : calls list (fromBytes image memory .next) .last ≡ s
+  pub opens : fromBytes image part memory .refusal ≡ 0
+  pub leads : calls list (fromBytes image part memory .next) .last ≡ s
 
--- where the claims above hold: each call, a restore and an import lead from a usable state to one; a reached state is
--- usable, and where its serial chip has a count of 0, acc is 0
+-- its part is in GBATEK's list, or is the usual one
+pub record Listed (s : State) : Type 0 where
+  pub maker : ℕ
+  pub device : ℕ
+  pub is : FlashPart (s .cart .kind) (s .cart .part) maker device
+
+-- where the claims above hold: each call, a restore and an import lead from a usable state to one; each flash kind's
+-- part is listed; a reached state is usable, and where its serial chip has a count of 0, acc is 0
 pub record UsableStates : Type 0 where
   pub stays : (c : Call) (d : List ℕ) (s : State) → Usable s → Usable (step c d s .next)
   pub restored : (b : List ℕ) (s : State) → areBytes b ≡ true → Usable s → Usable (restore b s .next)
   pub imported : (f : List ℕ) (s : State) → Usable s → Usable (importSave f s .next)
+  pub listed64 : (s : State) → Usable s → s .cart .kind ≡ Flash64 → Listed s
+  pub listed128 : (s : State) → Usable s → s .cart .kind ≡ Flash128 → Listed s
   pub reached : (s : State) → Reached s → Usable s
   pub acc0 : (s : State) → Reached s → s .cart .chip .eeprom .count ≡ 0 → s .cart .chip .eeprom .acc ≡ 0

@@ -10,6 +10,9 @@ use Rattle.image.specs.Image.{imageLength, imageQuestion}
 use Rattle.kind.specs.declared.SaveType.{SaveType}
 use Rattle.kind.specs.declared.SaveType.the-variants.{None}
 use Rattle.kind.specs.Kind.{byKind, memorySize, detectSaveType}
+use Rattle.part.specs.declared.Part.{Part}
+use Rattle.part.specs.declared.Part.the-variants.{Usual}
+use Rattle.part.specs.Part.{partOf, partFits, numberFits}
 use Rattle.eeprom.specs.declared.EepromPhase.the-variants.{Opcode}
 use Rattle.cart.specs.declared.ChipRecord.{ChipRecord}
 use Rattle.cart.specs.declared.Cartridge.{Cartridge}
@@ -47,8 +50,9 @@ guarded qs d s o = cond (eqb (asked qs) 0) o (refused (asked qs) s d)
 abbrev pub chipAllowed : ChipRecord → Bool
 chipAllowed chip = eqb (asked (fieldQuestions (chipBytes chip))) 0
 
+-- "A record whose named part does not have its kind's size is a no at question 2."
 unfoldable pub recordAllowed : Cartridge → Bool
-recordAllowed c = imageLength (c .len) && chipAllowed (c .chip)
+recordAllowed c = imageLength (c .len) && partFits (c .part) (c .kind) && chipAllowed (c .chip)
 
 abbrev pub recordQuestion : Cartridge → Question
 recordQuestion c = recordAllowed c else 2
@@ -72,20 +76,23 @@ freshChip large =
 abbrev pub isLarge : SaveType → Bool
 isLarge kind = byKind kind false false false false false true
 
-unfoldable pub freshCart : ℕ → SaveType → Cartridge
-freshCart n kind = record { len = n; kind = kind; dirty = false; chip = freshChip (isLarge kind) }
+unfoldable pub freshCart : ℕ → SaveType → Part → Cartridge
+freshCart n kind part = record { len = n; kind = kind; part = part; dirty = false; chip = freshChip (isLarge kind) }
 
--- Open (`from_bytes`): "Memory all FFh"; "A fresh cartridge is what an accepted opening gives."
-unfoldable pub fresh : List ℕ → State
-fresh image =
+-- Open (`from_bytes`), with a part: "Memory all FFh"; "A fresh cartridge is what an accepted opening gives."
+unfoldable pub fresh : List ℕ → Part → State
+fresh image part =
     let kind = detectSaveType image in
-    record { cart = freshCart (length image) kind; memory = erased (memorySize kind) }
+    record { cart = freshCart (length image) kind part; memory = erased (memorySize kind) }
 
--- "opening, given none, returns one of kind None with all else 0"
-abbrev pub openQuestions : List ℕ → List ℕ → List Question
-openQuestions image memory = imageQuestion image ∷ memoryQuestion (detectSaveType image) memory ∷ []
+-- opening is given the part's number; "15 when a named part's size is not the kind's, asked last at opening"
+abbrev pub openQuestions : List ℕ → ℕ → List ℕ → List Question
+openQuestions image part memory =
+    let kind = detectSaveType image in
+    imageQuestion image ∷ memoryQuestion kind memory ∷ numberFits part kind else 15 ∷ []
 
-unfoldable pub fromBytes : List ℕ → List ℕ → Outcome
-fromBytes image memory =
-    let none : State = record { cart = freshCart 0 None; memory = memory } in
-    guarded (openQuestions image memory) [] none (outcome [] (fresh image) [])
+-- "opening, given none, returns one of kind None with all else 0": the usual part
+unfoldable pub fromBytes : List ℕ → ℕ → List ℕ → Outcome
+fromBytes image part memory =
+    let none : State = record { cart = freshCart 0 None Usual; memory = memory } in
+    guarded (openQuestions image part memory) [] none (outcome [] (fresh image (partOf part)) [])

@@ -18,7 +18,7 @@ abbrev pub chipRecord : Flash → Eeprom → ChipRecord
 chipRecord flash eeprom = record { flash = flash; eeprom = eeprom }
 
 abbrev pub cartWith : Cartridge → Bool → ChipRecord → Cartridge
-cartWith c dirty chip = record { len = c .len; kind = c .kind; dirty = dirty; chip = chip }
+cartWith c dirty chip = record { len = c .len; kind = c .kind; part = c .part; dirty = dirty; chip = chip }
 
 -- every reply is made here
 abbrev pub reply : ℕ → ℕ → Cartridge → Reply

@@ -5,15 +5,17 @@ use mathlib.Core.List.{List, List·Memᴰ}
 use Prim.Native.Nat.{ℕ}
 use lib.ListN.{length}
 use Rattle.kind.specs.Kind.{memorySize, usesEeprom, detectSaveType}
+use Rattle.part.specs.Part.{partOf}
 use Rattle.cart.specs.Record.{State, recordAllowed, fromBytes}
 use Rattle.cart.specs.Calls.{Call, saveWrite, stateWith}
 use Rattle.cart.specs.Cut.{resumed, cut}
 use Rattle.cart.specs.Gbatek.{calls}
 
--- a cartridge of the image, whatever its chip, its memory and its flag hold
-pub record Open (image : List ℕ) (t : State) : Type 0 where
+-- a cartridge of the image with the part, whatever its chip, its memory and its flag hold
+pub record Open (image : List ℕ) (part : ℕ) (t : State) : Type 0 where
   pub lenIs : t .cart .len ≡ length image
   pub kindIs : t .cart .kind ≡ detectSaveType image
+  pub partIs : t .cart .part ≡ partOf part
   pub allowed : recordAllowed (t .cart) ≡ true
   pub memoryOk : length (t .memory) ≡ memorySize (t .cart .kind)
 
@@ -24,10 +26,10 @@ withFlag dirty s = stateWith s dirty (s .cart .chip) (s .memory)
 -- gives; the flag alone stays t's
 abbrev pub Resumes : Type 0
 Resumes =
-    (image memory : List ℕ) (list : List Call) (t : State)
-    → fromBytes image memory .refusal ≡ 0
+    (image : List ℕ) (part : ℕ) (memory : List ℕ) (list : List Call) (t : State)
+    → fromBytes image part memory .refusal ≡ 0
     → ((a v : ℕ) → List·Memᴰ (saveWrite a v) list → usesEeprom (detectSaveType image) ≡ false)
-    → Open image t
-    → let s = calls list (fromBytes image memory .next) .last in
+    → Open image part t
+    → let s = calls list (fromBytes image part memory .next) .last in
     (resumed s t ≡ withFlag (t .cart .dirty) s)
-    × (resumed s t ≡ withFlag (t .cart .dirty) (cut image memory s))
+    × (resumed s t ≡ withFlag (t .cart .dirty) (cut image part memory s))

@@ -10,6 +10,7 @@ use flash::Flash;
 use kind::SaveType;
 pub use layout::STATE_SIZE;
 pub use layout::StateBytes;
+use part::Part;
 pub use questions::door;
 pub use questions::record_allowed;
 pub use state_bytes::chip_bytes;
@@ -32,6 +33,8 @@ pub struct Cartridge {
     // the image's length
     pub len: usize,
     pub kind: SaveType,
+    // the flash chip that its maker put in
+    pub part: Part,
     // the changed flag
     pub dirty: bool,
     pub chip: ChipRecord,
@@ -134,12 +137,13 @@ fn is_large(kind: SaveType) -> bool
     }
 }
 
-pub fn fresh_cart(len: usize, kind: SaveType) -> Cartridge
-    ensures { λ r. ⌜ r ≡ freshCart len kind ⌝ }
+pub fn fresh_cart(len: usize, kind: SaveType, part: Part) -> Cartridge
+    ensures { λ r. ⌜ r ≡ freshCart len kind part ⌝ }
 {
     Cartridge {
         len: len,
         kind: kind,
+        part: part,
         dirty: false,
         chip: fresh_chip(is_large(kind)),
     }

@@ -34,6 +34,11 @@ pub fn record_allowed(cart: Cartridge) -> bool
     if !image::image_length(cart.len) {
         return false;
     }
+    let part = cart.part;
+    let kind = cart.kind;
+    if !part::part_fits(part, kind) {
+        return false;
+    }
     let chip = cart.chip;
     chip_allowed(chip)
 }

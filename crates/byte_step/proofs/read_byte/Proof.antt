@@ -6,7 +6,8 @@ use lib.ListN.{length, getD}
 use Rattle.kind.specs.declared.SaveType.{SaveType}
 use Rattle.kind.specs.Kind.{memorySize}
 use Rattle.flash.specs.Flash.{flashRead}
-use Rattle.byte_step.specs.ByteStep.{idWord, readByte}
+use Rattle.part.specs.Part.{idWord}
+use Rattle.byte_step.specs.ByteStep.{readByte}
 use Rattle.kind.proofs.Groups.{flash-kinds, eeprom-kinds}
 use borrow.Author.Needs.{needs}
 use Rattle.byte_step.proofs.read_byte.Statement.{statement}
@@ -32,26 +33,26 @@ returns : tie.Need-returns
 unfolding readByte
 returns c =
     let a = c .before .before .before .args in
-    ap (λ (k : SaveType). readByte k (a .flash) (a .memory .now) (a .address)) (sym (c .enum-told .given .1))
+    ap (λ (k : SaveType). readByte k (a .part) (a .flash) (a .memory .now) (a .address)) (sym (c .enum-told .given .1))
 
 returns-2 : tie.Need-returns-2
 unfolding readByte
 returns-2 c =
     let a = c .before .before .before .before .args in
-    ap (λ (k : SaveType). readByte k (a .flash) (a .memory .now) (a .address)) (sym (c .before .enum-told2 .given .1))
+    ap (λ (k : SaveType). readByte k (a .part) (a .flash) (a .memory .now) (a .address)) (sym (c .before .enum-told2 .given .1))
 
 returns-3 : tie.Need-returns-3
 unfolding readByte
 returns-3 c =
     let a = c .before .before .before .args in
     c .read-flash .ensures
-    ∙ flash-kinds (λ (k : SaveType). flashRead (idWord k) (a .flash) (a .memory .now) (a .address) ≡ readByte k (a .flash) (a .memory .now) (a .address)) (a .kind) (c .before .match .keys3) refl refl
+    ∙ flash-kinds (λ (k : SaveType). flashRead (idWord (a .part) k) (a .flash) (a .memory .now) (a .address) ≡ readByte k (a .part) (a .flash) (a .memory .now) (a .address)) (a .kind) (c .before .match .keys3) refl refl
 
 returns-4 : tie.Need-returns-4
 unfolding readByte
 returns-4 c =
     let a = c .before .before .before .args in
-    eeprom-kinds (λ (k : SaveType). getD (a .memory .now) (a .address % 8192) 0 ≡ readByte k (a .flash) (a .memory .now) (a .address)) (a .kind) (c .before .match .keys4) refl refl
+    eeprom-kinds (λ (k : SaveType). getD (a .memory .now) (a .address % 8192) 0 ≡ readByte k (a .part) (a .flash) (a .memory .now) (a .address)) (a .kind) (c .before .match .keys4) refl refl
 
 pub read-byte-spec : {M : Type 1} → statement M
 read-byte-spec =

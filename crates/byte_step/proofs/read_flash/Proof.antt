@@ -3,7 +3,7 @@ use mathlib.Core.Path.{sym, ap, _∙_}
 use mathlib.Core.Bool.{Bool, cond}
 use Prim.Native.Nat.{ℕ}
 use Rattle.flash.specs.Flash.{idByte, shownByte}
-use Rattle.byte_step.specs.ByteStep.{idWord}
+use Rattle.part.specs.Part.{idWord}
 use borrow.Author.Needs.{needs}
 use Rattle.byte_step.proofs.read_flash.Statement.{statement}
 use Rattle.byte_step.proofs.read_flash.Tie as tie
@@ -17,7 +17,7 @@ returns-2 : tie.Need-returns-2
 returns-2 c =
     let a = c .before .before .before .args in
     c .shown-byte .ensures
-    ∙ sym (ap (λ (b : Bool). cond b (idByte (idWord (a .kind)) (a .address)) (shownByte (a .flash) (a .memory .now) (a .address))) (c .before .if1 .left))
+    ∙ sym (ap (λ (b : Bool). cond b (idByte (idWord (a .part) (a .kind)) (a .address)) (shownByte (a .flash) (a .memory .now) (a .address))) (c .before .if1 .left))
 
 pub read-flash-spec : {M : Type 1} → statement M
 read-flash-spec =
