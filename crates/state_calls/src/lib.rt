@@ -8,10 +8,14 @@ use image::Answer;
 use kind::SaveType;
 use memory::NO_FILE;
 use memory::Store;
+use part::Part;
 ghost use mathlib.Core.Path.{_≡_};
 ghost use mathlib.Core.List.{List, []};
 ghost use Prim.Native.Nat.{ℕ};
-ghost use Rattle.cart.specs.Record.{fromBytes};
+ghost use Rattle.kind.specs.declared.SaveType.the-variants.{None};
+ghost use Rattle.part.specs.declared.Part.the-variants.{Usual};
+ghost use Rattle.part.specs.Part.{partNumber};
+ghost use Rattle.cart.specs.Record.{freshCart, fromBytes};
 ghost use Rattle.cart.specs.Calls.{chipState, takeSaveDirty, step, restore, usesEepromOf, eepromWindowStart};
 ghost use Rattle.cart.specs.Replies.{state, replied, flagReplied};
 ghost use Rattle.state_calls.specs.StateAnswer.{stateAnswer, stateAnswered};
@@ -22,19 +26,37 @@ pub struct StateAnswer {
     pub bytes: StateBytes,
 }
 
-// Opens an image and erases its memory. A refused opening returns a record of kind None with all else 0.
-pub fn from_bytes(image: &[u8], memory: &mut [u8]) -> Reply
-    ensures { λ r. ⌜ (r, now (memory .exit)) ≡ replied (fromBytes (now (image .entry)) (now (memory .entry))) ⌝ }
+fn no_cart() -> Cartridge
+    ensures { λ r. ⌜ r ≡ freshCart 0 None Usual ⌝ }
+{
+    cart::fresh_cart(0, SaveType::None, Part::Usual)
+}
+
+// Opens an image with the part of a number, and erases its memory. A refused opening returns a record of kind None with
+// all else 0.
+pub fn from_number(image: &[u8], part: u32, memory: &mut [u8]) -> Reply
+    ensures { λ r. ⌜ (r, now (memory .exit))
+        ≡ replied (fromBytes (now (image .entry)) part (now (memory .entry))) ⌝ }
 {
     if !image::image_length(image.len()) {
-        return cart::refuse(1, cart::fresh_cart(0, SaveType::None));
+        return cart::refuse(1, no_cart());
     }
     let kind = kind::detect_save_type(image);
     if memory.len() != kind::memory_size(kind) {
-        return cart::refuse(3, cart::fresh_cart(0, SaveType::None));
+        return cart::refuse(3, no_cart());
+    }
+    if !part::number_fits(part, kind) {
+        return cart::refuse(15, no_cart());
     }
     memory::apply(Store::Chip, &NO_FILE, memory);
-    cart::done(0, cart::fresh_cart(image.len(), kind))
+    cart::done(0, cart::fresh_cart(image.len(), kind, part::part_of(part)))
+}
+
+pub fn from_bytes(image: &[u8], part: Part, memory: &mut [u8]) -> Reply
+    ensures { λ r. ⌜ (r, now (memory .exit))
+        ≡ replied (fromBytes (now (image .entry)) (partNumber part) (now (memory .entry))) ⌝ }
+{
+    from_number(image, part::part_number(part) as u32, memory)
 }
 
 fn state_answer(refusal: u8, bytes: StateBytes) -> StateAnswer
