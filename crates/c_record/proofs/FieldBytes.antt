@@ -1,14 +1,15 @@
 -- Fields read from a record's bytes and written among them. Assumes nothing.
 use mathlib.Core.Path.{_≡_, refl, sym, ap}
 use mathlib.Core.Bool.{Bool, true, false, _||_}
-use mathlib.Core.List.{List, _∷_, _++_}
+use mathlib.Core.List.{List, [], _∷_, _++_}
 use Prim.Native.Nat.{ℕ, _/_, _%_}
 use lib.Dec.{eqb}
+use native.Mathlib.Omega.{arith}
 use lib.ListN.{getD}
-use lib.Seq.{getD-drop}
 use Rattle.lists.specs.Lists.{lowFirst}
 use Rattle.lists.proofs.Digits.{low-bytes}
 use Rattle.kind.specs.Kind.{kindNumber}
+use Rattle.part.specs.Part.{partNumber}
 use Rattle.flash.specs.declared.Flash.{Flash}
 use Rattle.eeprom.specs.declared.Eeprom.{Eeprom}
 use Rattle.eeprom.specs.Eeprom.{told, serial, ended}
@@ -17,10 +18,11 @@ use Rattle.cart.specs.ChipState.{bit, phaseNumber, chipBytes, chipOf}
 use Rattle.cart.specs.Replies.{chipRecord, cartWith}
 use Rattle.c_record.specs.RecordBytes.{recordBytes, cartOf, Valid}
 use Rattle.c_record.specs.Fields.{withFlash, withId, withWidth, withLarge, withShift, withPlace, withEnded, withSerial}
+use Rattle.c_record.proofs.RecordBytes.{chip-at}
 
 pub flash-read : (r : List ℕ) → record { state = getD r 6 0; bank = getD r 7 0; id = eqb (getD r 8 0) 1 } ≡ cartOf r .chip .flash
 unfolding cartOf chipOf
-flash-read r = λ i. record { state = sym (getD-drop 6 r 0 0) i; bank = sym (getD-drop 6 r 1 0) i; id = eqb (sym (getD-drop 6 r 2 0) i) 1 }
+flash-read r = λ i. record { state = sym (chip-at r 0 (omega arith)) i; bank = sym (chip-at r 1 (omega arith)) i; id = eqb (sym (chip-at r 2 (omega arith)) i) 1 }
 
 -- the flag bytes of a valid record: the ID mode, which `withFlash` leaves, and large
 pub id-byte : (r : List ℕ) → Valid r → (sets : Bool) (f : Flash) → getD (withFlash r sets f) 8 0 ≡ bit (cartOf r .chip .flash .id)
@@ -67,7 +69,7 @@ module _ (c : Cartridge) where
   abbrev spelled : ℕ → ℕ → Bool → ℕ → ℕ → ℕ → ℕ → ℕ → List ℕ → List ℕ
   spelled dirty width large phase count low high place acc =
       lowFirst 4 (c .len)
-      ++ (kindNumber (c .kind) ∷ dirty ∷ c .chip .flash .state ∷ c .chip .flash .bank ∷ bit (c .chip .flash .id) ∷ width ∷ bit large ∷ phase ∷ count ∷ low ∷ high ∷ place ∷ acc)
+      ++ (kindNumber (c .kind) ∷ dirty ∷ c .chip .flash .state ∷ c .chip .flash .bank ∷ bit (c .chip .flash .id) ∷ width ∷ bit large ∷ phase ∷ count ∷ low ∷ high ∷ place ∷ (acc ++ (partNumber (c .part) ∷ [])))
 
   pub put-shift : (count acc : ℕ)
       → let e = c .chip .eeprom in

@@ -2,28 +2,32 @@
 use mathlib.Core.Path.{_≡_, refl, sym, ap, _∙_}
 use mathlib.Core.Bool.{Bool, true, false, _&&_}
 use mathlib.Core.List.{List, [], _∷_, _++_}
-use Prim.Native.Nat.{ℕ, suc, _+_, _*_, _-_, _/_, _%_, _^_, _≤_, _<_}
+use Prim.Native.Nat.{ℕ, suc, _+_, _*_, _/_, _%_, _^_, _≤_, _<_}
 use native.Mathlib.Nat.{div-div-eq-div-mul}
 use native.Mathlib.Omega.{arith}
 use lib.Dec.{leb, eqb}
-use lib.ListN.{length, getD, take, drop, replicate, length-drop, length-take, take-append-drop}
+use lib.ListN.{length, getD, take, drop, replicate, length-drop, length-take, take-append-drop, drop-of-length-le}
 use lib.Pow.{areBytes}
-use lib.Seq.{drop-cons, take-all}
+use lib.Seq.{drop-cons, drop-drop, take-all, getD-take, getD-drop}
 use borrow.Author.Tests.{leb-true, eqb-true, eqb-false, lt-ltb, lt-leb, le-leb}
 use Rattle.lists.specs.Lists.{lowFirst, lowValue}
 use Rattle.lists.specs.Questions.{asked}
 use Rattle.lists.proofs.Bools.{split, and-left, and-right}
 use Rattle.lists.proofs.Digits.{low-back, low-forth, low-at, bytes-drop, bytes-take}
-use Rattle.lists.proofs.Parts.{rest, spelled, spells}
+use Rattle.lists.proofs.Parts.{spelled, spells}
 use Rattle.image.specs.Image.{imageLength}
 use Rattle.kind.specs.declared.SaveType.the-variants.{None}
-use Rattle.kind.specs.Kind.{kindNumber}
+use Rattle.kind.specs.Kind.{kindNumber, kindOf}
 use Rattle.kind.proofs.Numbers.{kind-le, kind-back, kind-forth}
+use Rattle.part.specs.declared.Part.the-variants.{Usual}
+use Rattle.part.specs.Part.{partNumber, partOf, partFits, numberFits}
+use Rattle.part.proofs.Numbers.{part-le, part-back, part-forth}
+use Rattle.cart.specs.declared.ChipRecord.{ChipRecord}
 use Rattle.cart.specs.declared.Cartridge.{Cartridge}
 use Rattle.cart.specs.ChipState.{bit, chipBytes, chipOf, fieldQuestions}
 use Rattle.cart.specs.Record.{recordAllowed, freshCart}
 use Rattle.cart.proofs.ChipState.{bit-le, bit-back, own-size, chip-back, bytes-back}
-use Rattle.c_record.specs.RecordBytes.{recordBytes, cartOf, isRecord, Valid}
+use Rattle.c_record.specs.RecordBytes.{recordBytes, chipIn, cartOf, isRecord, Valid}
 use Rattle.c_record.specs.Claims.{RecordAndBytes}
 
 -- four bytes as one number, and a number's four bytes
@@ -40,31 +44,53 @@ bit-forth n h =
     let l = leb-true n 1 h in
     split (λ x. x ≡ n) (eqb n 1) (λ e. sym (eqb-true n 1 e)) (λ e. let q = eqb-false n 1 e in omega arith)
 
+-- the chip record's bytes, with one after them
+module _ (x : ChipRecord) (p : ℕ) where
+  pub chip-front : take 18 (chipBytes x ++ (p ∷ [])) ≡ chipBytes x
+  unfolding chipBytes lowFirst
+  chip-front = refl
+
+  chip-last : getD (chipBytes x ++ (p ∷ [])) 18 0 ≡ p
+  unfolding chipBytes lowFirst
+  chip-last = refl
+
+  chip-longer : length (chipBytes x ++ (p ∷ [])) ≡ 19
+  unfolding chipBytes lowFirst
+  chip-longer = refl
+
+-- where they are in a record
+pub chip-at : (r : List ℕ) (i : ℕ) → i < 18 → getD (chipIn r) i 0 ≡ getD r (6 + i) 0
+chip-at r i h = getD-take 18 (drop 6 r) i 0 h ∙ getD-drop 6 r i 0
+
 -- what is asked of a record's bytes, one by one
 pub record Yes (r : List ℕ) : Type 0 where
   pub kindOk : leb (getD r 4 0) 5 ≡ true
   pub flagOk : leb (getD r 5 0) 1 ≡ true
   pub lenOk : imageLength (lowValue (take 4 r)) ≡ true
-  pub sizeOk : length r ≡ 24
-  pub chipOk : asked (fieldQuestions (drop 6 r)) ≡ 0
+  pub partOk : numberFits (getD r 24 0) (kindOf (getD r 4 0)) ≡ true
+  pub sizeOk : length r ≡ 25
+  pub chipOk : asked (fieldQuestions (chipIn r)) ≡ 0
 
 pub yes : (r : List ℕ) → isRecord r ≡ true → Yes r
 unfolding isRecord
 yes r h =
-    let s : Bool = eqb (length r) 24 in
+    let s : Bool = eqb (length r) 25 in
     let k : Bool = leb (getD r 4 0) 5 in
     let f : Bool = leb (getD r 5 0) 1 in
     let l : Bool = imageLength (lowValue (take 4 r)) in
-    let n : ℕ = asked (fieldQuestions (drop 6 r)) in
-    let skfl = and-left (s && k && f && l) (eqb n 0) h in
+    let p : Bool = numberFits (getD r 24 0) (kindOf (getD r 4 0)) in
+    let n : ℕ = asked (fieldQuestions (chipIn r)) in
+    let skflp = and-left (s && k && f && l && p) (eqb n 0) h in
+    let skfl = and-left (s && k && f && l) p skflp in
     let skf = and-left (s && k && f) l skfl in
     let sk = and-left (s && k) f skf in
     record {
       kindOk = and-right s k sk;
       flagOk = and-right (s && k) f skf;
       lenOk = and-right (s && k && f) l skfl;
-      sizeOk = eqb-true (length r) 24 (and-left s k sk);
-      chipOk = eqb-true n 0 (and-right (s && k && f && l) (eqb n 0) h);
+      partOk = and-right (s && k && f && l) p skflp;
+      sizeOk = eqb-true (length r) 25 (and-left s k sk);
+      chipOk = eqb-true n 0 (and-right (s && k && f && l && p) (eqb n 0) h);
     }
 
 image-lt : (n : ℕ) → imageLength n ≡ true → n < 256 ^ 4
@@ -75,34 +101,49 @@ written : (c : Cartridge) → recordAllowed c ≡ true → c .chip .eeprom .acc 
 unfolding isRecord recordBytes cartOf recordAllowed lowFirst
 written c h a =
     let l : Bool = imageLength (c .len) in
+    let f : Bool = partFits (c .part) (c .kind) in
     let n : ℕ = asked (fieldQuestions (chipBytes (c .chip))) in
-    let lenOk = and-left l (eqb n 0) h in
+    let lf = and-left (l && f) (eqb n 0) h in
+    let lenOk = and-left l f lf in
+    let x = c .chip in
+    let p = partNumber (c .part) in
     let back : lowValue (lowFirst 4 (c .len)) ≡ c .len = low-back 4 (c .len) (image-lt (c .len) lenOk) in (
-      rw (own-size (c .chip), kind-le (c .kind), bit-le (c .dirty), back, lenOk, and-right l (eqb n 0) h),
+      rw (chip-longer x p, chip-front x p, chip-last x p, kind-le (c .kind), bit-le (c .dirty), back, lenOk, part-le (c .part), part-back (c .part), kind-back (c .kind), and-right l f lf, and-right (l && f) (eqb n 0) h),
       λ i.
           record {
             len = back i;
             kind = kind-back (c .kind) i;
+            part = (ap partOf (chip-last x p) ∙ part-back (c .part)) i;
             dirty = bit-back (c .dirty) i;
-            chip = chip-back (c .chip) a i;
+            chip = (ap chipOf (chip-front x p) ∙ chip-back x a) i;
           },
     )
+
+-- the chip record and the part are the last 19 bytes
+last-bytes : (r : List ℕ) → length r ≡ 25 → chipIn r ++ (getD r 24 0 ∷ []) ≡ drop 6 r
+last-bytes r n =
+    let l : length r ≤ 25 = omega arith in
+    let z : drop 25 r ≡ [] = drop-of-length-le r l in
+    ap (λ (l : List ℕ). chipIn r ++ l) (sym (drop-drop 18 6 r ∙ drop-cons r 24 0 (omega arith) ∙ ap (λ (l : List ℕ). getD r 24 0 ∷ l) z))
+    ∙ take-append-drop 18 (drop 6 r)
 
 read : (r : List ℕ) → areBytes r ≡ true → isRecord r ≡ true → (recordAllowed (cartOf r) ≡ true) × (recordBytes (cartOf r) ≡ r)
 unfolding recordBytes cartOf recordAllowed
 read r b h =
     let y = yes r h in
-    let d = drop 6 r in
-    let n : length r ≡ 24 = y .sizeOk in
-    let m : length d ≡ 18 = length-drop 6 r ∙ omega arith in
-    let k : chipBytes (chipOf d) ≡ d = bytes-back d (bytes-drop 6 r b) m (y .chipOk) in
+    let d = chipIn r in
+    let n : length r ≡ 25 = y .sizeOk in
+    let m : length d ≡ 18 = simp (length-take, length-drop) (omega arith) in
+    let p : ℕ = getD r 24 0 in
+    let f : Bool = partFits (partOf p) (kindOf (getD r 4 0)) in
+    let k : chipBytes (chipOf d) ≡ d = bytes-back d (bytes-take 18 (drop 6 r) (bytes-drop 6 r b)) m (y .chipOk) in
     let t : length (take 4 r) ≡ 4 = length-take 4 r ∙ omega arith in (
-      rw (k, y .lenOk, y .chipOk),
-      rw (k, kind-forth (getD r 4 0) (y .kindOk), bit-forth (getD r 5 0) (y .flagOk), low-forth 4 (take 4 r) t (bytes-take 4 r b))
+      rw (k, y .lenOk, and-right (leb p 5) f (y .partOk), y .chipOk),
+      rw (k, kind-forth (getD r 4 0) (y .kindOk), part-forth p (and-left (leb p 5) f (y .partOk)), bit-forth (getD r 5 0) (y .flagOk), low-forth 4 (take 4 r) t (bytes-take 4 r b), last-bytes r n)
           (ap (λ (l : List ℕ). take 4 r ++ l) (sym (drop-cons r 4 0 (omega arith) ∙ ap (λ (l : List ℕ). getD r 4 0 ∷ l) (drop-cons r 5 0 (omega arith)))) ∙ take-append-drop 4 r),
     )
 
-nothing : recordBytes (freshCart 0 None) ≡ replicate 24 0
+nothing : recordBytes (freshCart 0 None Usual) ≡ replicate 25 0
 unfolding recordBytes freshCart chipBytes lowFirst
 nothing = refl
 
@@ -110,14 +151,14 @@ pub record-and-bytes : RecordAndBytes
 record-and-bytes = record { written = written; read = read; nothing = nothing }
 
 -- the bytes, written one by one
-pub record-spelled : (c : Cartridge) (k d : ℕ) (b : List ℕ) → k ≡ kindNumber (c .kind) → d ≡ bit (c .dirty) → b ≡ chipBytes (c .chip)
-    → c .len % 256 ∷ c .len / 256 % 256 ∷ c .len / 65536 % 256 ∷ c .len / 16777216 % 256 ∷ k ∷ d ∷ spelled b 0 0 18 ≡ recordBytes c
+pub record-spelled : (c : Cartridge) (k d p : ℕ) (b : List ℕ) → k ≡ kindNumber (c .kind) → d ≡ bit (c .dirty) → p ≡ partNumber (c .part) → b ≡ chipBytes (c .chip)
+    → c .len % 256 ∷ c .len / 256 % 256 ∷ c .len / 65536 % 256 ∷ c .len / 16777216 % 256 ∷ k ∷ d ∷ (spelled b 0 0 18 ++ (p ∷ [])) ≡ recordBytes c
 unfolding recordBytes
-record-spelled c k d b e f g =
+record-spelled c k d p b e f h g =
     let n : length b ≡ 18 = ap length g ∙ own-size (c .chip) in
     let s : spelled b 0 0 18 ≡ b = sym (spells b 0 18 0 (omega arith)) ∙ take-all 18 b (omega arith) in
-    sym (rw (four-bytes (c .len), ← e, ← f, ← g)
-    (ap (λ (l : List ℕ). c .len % 256 ∷ c .len / 256 % 256 ∷ c .len / 65536 % 256 ∷ c .len / 16777216 % 256 ∷ k ∷ d ∷ l) (sym s)))
+    sym (rw (four-bytes (c .len), ← e, ← f, ← h, ← g)
+    (ap (λ (l : List ℕ). c .len % 256 ∷ c .len / 256 % 256 ∷ c .len / 65536 % 256 ∷ c .len / 16777216 % 256 ∷ k ∷ d ∷ (l ++ (p ∷ []))) (sym s)))
 
 -- bytes of which question 2 is answered yes
 pub are-bytes : (l : List ℕ) → ((i : ℕ) → getD l i 0 < 256) → areBytes l ≡ true
@@ -128,7 +169,7 @@ pub valid-record : (r : List ℕ) → ((i : ℕ) → getD r i 0 < 256) → isRec
 valid-record r b h = let y = read r (are-bytes r b) h in record { yes = h; allowed = y .0; back = y .1 }
 
 -- the questions of a record's bytes, up to the first no
-module _ (r : List ℕ) (n : length r ≡ 24) where
+module _ (r : List ℕ) (n : length r ≡ 25) where
   pub no-kind : 5 < getD r 4 0 → false ≡ isRecord r
   unfolding isRecord
   no-kind k = rw (n, lt-leb (getD r 4 0) 5 k)
@@ -141,8 +182,14 @@ module _ (r : List ℕ) (n : length r ≡ 24) where
   unfolding isRecord
   no-length k f l = rw (n, le-leb (getD r 4 0) 5 k, le-leb (getD r 5 0) 1 f, l)
 
+  pub no-part : getD r 4 0 ≤ 5 → getD r 5 0 ≤ 1 → imageLength (lowValue (take 4 r)) ≡ true
+      → numberFits (getD r 24 0) (kindOf (getD r 4 0)) ≡ false → false ≡ isRecord r
+  unfolding isRecord
+  no-part k f l p = rw (n, le-leb (getD r 4 0) 5 k, le-leb (getD r 5 0) 1 f, l, p)
+
   pub by-chip : {x : ℕ} → getD r 4 0 ≤ 5 → getD r 5 0 ≤ 1 → imageLength (lowValue (take 4 r)) ≡ true
-      → x ≡ asked (fieldQuestions (take (length r - 6) (drop 6 r)))
+      → numberFits (getD r 24 0) (kindOf (getD r 4 0)) ≡ true
+      → x ≡ asked (fieldQuestions (chipIn r))
       → eqb x 0 ≡ isRecord r
   unfolding isRecord
-  by-chip k f l e = rw (n, le-leb (getD r 4 0) 5 k, le-leb (getD r 5 0) 1 f, l, e, rest 6 r)
+  by-chip k f l p e = rw (n, le-leb (getD r 4 0) 5 k, le-leb (getD r 5 0) 1 f, l, p, e)

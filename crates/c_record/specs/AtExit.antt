@@ -1,4 +1,4 @@
--- What a C call leaves: "A no returns the number, the record as given, all buffers unchanged", and 24 bytes that
+-- What a C call leaves: "A no returns the number, the record as given, all buffers unchanged", and 25 bytes that
 -- are no record are 2.
 use mathlib.Core.Bool.{Bool, false, cond}
 use mathlib.Core.List.{List, []}

@@ -7,8 +7,8 @@ use Rattle.cart.specs.Calls.{step, restore, importSave, usesEepromOf, eepromWin
 use Rattle.c_record.specs.AtExit.{left, called, plain, valueAt, flagAt, stateAt, exportAt, askedAt}
 
 -- opening writes the record, whatever it was
-abbrev pub opens : List ℕ → List ℕ → ℕ × List ℕ × List ℕ
-opens image m = plain (left (fromBytes image m))
+abbrev pub opens : List ℕ → ℕ → List ℕ → ℕ × List ℕ × List ℕ
+opens image part m = plain (left (fromBytes image part m))
 
 abbrev pub reads : ℕ → List ℕ → List ℕ → ℕ → ℕ × List ℕ × List ℕ × ℕ
 reads address r m place = valueAt place (called (step (saveRead address) []) [] r m)

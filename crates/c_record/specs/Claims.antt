@@ -6,6 +6,7 @@ use Prim.Native.Nat.{ℕ, _^_, _<_}
 use lib.ListN.{replicate}
 use lib.Pow.{areBytes}
 use Rattle.kind.specs.declared.SaveType.the-variants.{None}
+use Rattle.part.specs.declared.Part.the-variants.{Usual}
 use Rattle.cart.specs.declared.Cartridge.{Cartridge}
 use Rattle.cart.specs.Record.{recordAllowed, freshCart}
 use Rattle.c_record.specs.RecordBytes.{recordSize, recordBytes, cartOf, isRecord}
@@ -18,4 +19,4 @@ pub record RecordAndBytes : Type 0 where
   pub read : (r : List ℕ) → areBytes r ≡ true → isRecord r ≡ true
       → (recordAllowed (cartOf r) ≡ true) × (recordBytes (cartOf r) ≡ r)
   -- "one of kind None with all else 0", which is no record
-  pub nothing : recordBytes (freshCart 0 None) ≡ replicate recordSize 0
+  pub nothing : recordBytes (freshCart 0 None Usual) ≡ replicate recordSize 0

@@ -4,6 +4,7 @@ use crate::layout::RecordBytes;
 use eeprom::Eeprom;
 use flash::Flash;
 use kind::SaveType;
+use part::Part;
 ghost use mathlib.Core.Path.{_≡_};
 ghost use lib.ListN.{length};
 ghost use Rattle.c_record.specs.RecordBytes.{recordSize, cartOf};
@@ -20,6 +21,19 @@ pub fn kind_in(cart: &RecordBytes) -> SaveType
     kind::kind_of(cart[layout::KIND])
 }
 
+fn part_of(bytes: &[u8]) -> Part
+    requires { ⌜ length (now bytes) ≡ recordSize ⌝ }
+    ensures { λ p. ⌜ p ≡ cartOf (now (bytes .entry)) .part ⌝ }
+{
+    part::part_of(bytes[layout::PART] as u32)
+}
+
+pub fn part_in(cart: &RecordBytes) -> Part
+    ensures { λ p. ⌜ p ≡ cartOf (now (cart .entry)) .part ⌝ }
+{
+    part_of(&cart[..])
+}
+
 pub fn flash_in(cart: &RecordBytes) -> Flash
     ensures { λ f. ⌜ f ≡ cartOf (now (cart .entry)) .chip .flash ⌝ }
 {
@@ -34,7 +48,7 @@ fn eeprom_of(bytes: &[u8]) -> Eeprom
     requires { ⌜ length (now bytes) ≡ recordSize ⌝ }
     ensures { λ e. ⌜ e ≡ cartOf (now (bytes .entry)) .chip .eeprom ⌝ }
 {
-    let chip = cart::chip_of(&bytes[layout::CHIP..]);
+    let chip = cart::chip_of(&bytes[layout::CHIP..layout::PART]);
     chip.eeprom
 }
 

@@ -1,7 +1,8 @@
 // The bytes of a cartridge record: how many they are, and where each field is.
+use cart::STATE_SIZE;
 use cart::layout;
 
-pub const RECORD_SIZE: usize = 24;
+pub const RECORD_SIZE: usize = 25;
 
 pub type RecordBytes = [u8; RECORD_SIZE];
 
@@ -32,3 +33,5 @@ pub const BLOCK: usize = CHIP + layout::BLOCK;
 pub const PLACE: usize = CHIP + layout::PLACE;
 
 pub const ACC: usize = CHIP + layout::ACC;
+
+pub const PART: usize = CHIP + STATE_SIZE;

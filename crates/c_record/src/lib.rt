@@ -8,6 +8,7 @@ pub use fields::eeprom_in;
 pub use fields::flash_in;
 pub use fields::kind_in;
 pub use fields::len_in;
+pub use fields::part_in;
 pub use layout::RecordBytes;
 pub use outward::put_bit;
 pub use outward::put_eeprom;
@@ -37,7 +38,13 @@ fn valid(bytes: &[u8]) -> bool
     if !image::image_length(lists::low32(bytes[0], bytes[1], bytes[2], bytes[3]) as usize) {
         return false;
     }
-    cart::field_questions(&bytes[layout::CHIP..]) == 0
+    if !part::number_fits(
+        bytes[layout::PART] as u32,
+        kind::kind_of(bytes[layout::KIND]),
+    ) {
+        return false;
+    }
+    cart::field_questions(&bytes[layout::CHIP..layout::PART]) == 0
 }
 
 pub fn is_record(cart: &RecordBytes) -> bool

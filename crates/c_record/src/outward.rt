@@ -118,6 +118,7 @@ pub fn record_bytes(cart: Cartridge) -> RecordBytes
     ensures { λ r. ⌜ r ≡ recordBytes cart ⌝ }
 {
     let kind = cart.kind;
+    let part = cart.part;
     let chip = cart.chip;
     let b = cart::chip_bytes(chip);
     [
@@ -145,5 +146,6 @@ pub fn record_bytes(cart: Cartridge) -> RecordBytes
         b[15],
         b[16],
         b[17],
+        part::part_number(part) as u8,
     ]
 }

@@ -1,18 +1,19 @@
 -- The quick tests imply question 2. Assumes nothing.
 use mathlib.Core.Path.{_≡_, refl, sym}
 use mathlib.Core.Logic.{_≢_}
-use mathlib.Core.Bool.{Bool, true, false, cond, true≢false}
+use mathlib.Core.Bool.{Bool, true, false, cond, _&&_, true≢false}
 use mathlib.Core.List.{List}
 use Prim.Native.Nat.{ℕ, _+_, _*_, _≤_, _<_}
 use native.Mathlib.Omega.{arith}
 use lib.Dec.{leb, eqb}
-use lib.ListN.{length, getD, take, drop}
-use lib.Seq.{getD-drop}
+use lib.ListN.{length, getD, take}
 use borrow.Author.Tests.{le-leb, lt-leb, lt-ltb, eqb-true, eqb-false, ne-eqb}
 use Rattle.lists.specs.Lists.{lowValue}
 use Rattle.lists.specs.Questions.{asked}
 use Rattle.lists.proofs.Bools.{split, cases, and-left, and-right}
 use Rattle.image.specs.Image.{imageLength}
+use Rattle.kind.specs.Kind.{kindOf}
+use Rattle.part.specs.Part.{numberFits}
 use Rattle.flash.specs.Flash.{stateAllowed}
 use Rattle.eeprom.specs.declared.EepromPhase.{EepromPhase}
 use Rattle.eeprom.specs.declared.EepromPhase.the-variants.{Opcode, ReadAddress, WriteAddress, WriteData, ReadStop, WriteStop, Reading}
@@ -20,21 +21,27 @@ use Rattle.eeprom.specs.Eeprom.{widthAllowed, w, countLimit}
 use Rattle.eeprom.proofs.Sound.{limit-64}
 use Rattle.eeprom.proofs.Allowed.{w-le}
 use Rattle.cart.specs.ChipState.{phaseOf, fieldQuestions}
-use Rattle.c_record.specs.RecordBytes.{isRecord}
+use Rattle.c_record.specs.RecordBytes.{chipIn, isRecord}
+use Rattle.c_record.proofs.RecordBytes.{chip-at}
 use Rattle.quick_tests.specs.QuickTests.{isKnown, FlashUsual, FieldsUsual, SerialRests, CountAllowed}
 
 -- a test that says no shows nothing
 pub never : {P : Type 0} → false ≡ true → P
 never e = absurd (true≢false (sym e))
 
--- kind and image length
+-- kind, part and image length
 pub unknown-kind : (r : List ℕ) → 5 < getD r 4 0 → false ≡ isKnown r
 unfolding isKnown
 unknown-kind r k = rw (lt-leb (getD r 4 0) 5 k)
 
-pub known-kind : (r : List ℕ) {b : Bool} → getD r 4 0 ≤ 5 → b ≡ imageLength (lowValue (take 4 r)) → b ≡ isKnown r
+pub unknown-part : (r : List ℕ) → getD r 4 0 ≤ 5 → numberFits (getD r 24 0) (kindOf (getD r 4 0)) ≡ false → false ≡ isKnown r
 unfolding isKnown
-known-kind r k e = rw (le-leb (getD r 4 0) 5 k) e
+unknown-part r k p = rw (le-leb (getD r 4 0) 5 k, p)
+
+pub known-part : (r : List ℕ) {b : Bool} → getD r 4 0 ≤ 5 → numberFits (getD r 24 0) (kindOf (getD r 4 0)) ≡ true
+    → b ≡ imageLength (lowValue (take 4 r)) → b ≡ isKnown r
+unfolding isKnown
+known-part r k p e = rw (le-leb (getD r 4 0) 5 k, p) e
 
 -- the count
 w-positive : (width : ℕ) (large : Bool) → 0 < w width large
@@ -98,22 +105,24 @@ unfolding stateAllowed
 flash-zero r s b i = record { state = rw s refl; bank = b; id = i }
 
 -- the chip record, and the whole record
-chip-usual : (r : List ℕ) → FieldsUsual r → CountAllowed (getD r 11 0) (getD r 12 0) (getD r 9 0) (eqb (getD r 10 0) 1) → asked (fieldQuestions (drop 6 r)) ≡ 0
+chip-usual : (r : List ℕ) → FieldsUsual r → CountAllowed (getD r 11 0) (getD r 12 0) (getD r 9 0) (eqb (getD r 10 0) 1) → asked (fieldQuestions (chipIn r)) ≡ 0
 unfolding fieldQuestions
 chip-usual r f k =
     let l = limit-64 (phaseOf (getD r 11 0)) (w (getD r 9 0) (eqb (getD r 10 0) 1)) (getD r 12 0) (w-le (getD r 9 0) (eqb (getD r 10 0) 1) (f .width)) (k .1) in
-    rw (getD-drop 6 r 0 0, getD-drop 6 r 1 0, getD-drop 6 r 2 0, getD-drop 6 r 3 0, getD-drop 6 r 4 0, getD-drop 6 r 5 0, getD-drop 6 r 6 0, getD-drop 6 r 7 0, getD-drop 6 r 8 0, getD-drop 6 r 9 0)
+    rw (chip-at r 0 (omega arith), chip-at r 1 (omega arith), chip-at r 2 (omega arith), chip-at r 3 (omega arith), chip-at r 4 (omega arith), chip-at r 5 (omega arith), chip-at r 6 (omega arith), chip-at r 7 (omega arith), chip-at r 8 (omega arith), chip-at r 9 (omega arith))
     (rw (le-leb (getD r 11 0) 6 (k .0), f .flash .state, le-leb (getD r 7 0) 1 (f .flash .bank), le-leb (getD r 8 0) 1 (f .flash .id), le-leb (getD r 10 0) 1 (f .large), f .width, le-leb (getD r 12 0) 64 (omega (arith, l)), le-leb (getD r 13 0 + 256 * getD r 14 0) 1023 (f .block), le-leb (getD r 15 0) 67 (f .place), lt-ltb (getD r 12 0) _ (k .1)) refl)
 
 pub usual-record : (r : List ℕ) → FieldsUsual r → CountAllowed (getD r 11 0) (getD r 12 0) (getD r 9 0) (eqb (getD r 10 0) 1) → isKnown r ≡ true → isRecord r ≡ true
 unfolding isKnown isRecord
 usual-record r f k h =
     let a : Bool = leb (getD r 4 0) 5 in
+    let p : Bool = numberFits (getD r 24 0) (kindOf (getD r 4 0)) in
     let b : Bool = imageLength (lowValue (take 4 r)) in
-    rw (f .size, and-left a b h, le-leb (getD r 5 0) 1 (f .flag), and-right a b h, chip-usual r f k) refl
+    let g = and-left (a && p) b h in
+    rw (f .size, and-left a p g, le-leb (getD r 5 0) 1 (f .flag), and-right (a && p) b h, and-right a p g, chip-usual r f k) refl
 
 -- the serial chip at rest
-pub rests-record : (r : List ℕ) → length r ≡ 24 → getD r 5 0 ≤ 1 → FlashUsual r → SerialRests r → isKnown r ≡ true → isRecord r ≡ true
+pub rests-record : (r : List ℕ) → length r ≡ 25 → getD r 5 0 ≤ 1 → FlashUsual r → SerialRests r → isKnown r ≡ true → isRecord r ≡ true
 unfolding widthAllowed
 rests-record r n f h s =
     usual-record r

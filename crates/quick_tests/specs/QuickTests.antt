@@ -7,14 +7,19 @@ use lib.Dec.{leb}
 use lib.ListN.{length, getD, take}
 use Rattle.lists.specs.Lists.{lowValue}
 use Rattle.image.specs.Image.{imageLength}
+use Rattle.kind.specs.Kind.{kindOf}
+use Rattle.part.specs.Part.{numberFits}
 use Rattle.flash.specs.Flash.{stateAllowed}
 use Rattle.eeprom.specs.Eeprom.{widthAllowed, w, countLimit}
 use Rattle.cart.specs.ChipState.{phaseOf}
-use Rattle.c_record.specs.RecordBytes.{recordSize, kindAt, dirtyAt}
+use Rattle.c_record.specs.RecordBytes.{recordSize, kindAt, dirtyAt, partAt}
 use Rattle.c_record.specs.Fields.{flashStateAt, bankAt, idAt, widthAt, largeAt, phaseAt, countAt, blockAt, placeAt}
 
 unfoldable pub isKnown : List ℕ → Bool
-isKnown r = leb (getD r kindAt 0) 5 && imageLength (lowValue (take 4 r))
+isKnown r =
+    leb (getD r kindAt 0) 5
+    && numberFits (getD r partAt 0) (kindOf (getD r kindAt 0))
+    && imageLength (lowValue (take 4 r))
 
 pub record FlashUsual (r : List ℕ) : Type 0 where
   pub state : stateAllowed (getD r flashStateAt 0) ≡ true

@@ -20,10 +20,16 @@ fn known_in(bytes: &[u8]) -> bool
     if 5 < bytes[layout::KIND] {
         return false;
     }
+    if !part::number_fits(
+        bytes[layout::PART] as u32,
+        kind::kind_of(bytes[layout::KIND]),
+    ) {
+        return false;
+    }
     image::image_length(lists::low32(bytes[0], bytes[1], bytes[2], bytes[3]) as usize)
 }
 
-// Kind and image length are allowed.
+// Kind, part and image length are allowed.
 pub fn known(cart: &RecordBytes) -> bool
     ensures { λ b. ⌜ b ≡ isKnown (now (cart .entry)) ⌝ }
     ensures { λ _. ⌜ (isRecord (now (cart .entry)) ≡ true → Valid (now (cart .entry))) ⌝ }

@@ -1,8 +1,6 @@
 -- `c_record::fields::eeprom_of` meets its contract. Assumes nothing.
-use mathlib.Core.Path.{ap, _∙_}
-use Rattle.lists.proofs.Parts.{rest}
+use mathlib.Core.Path.{ap}
 use Rattle.cart.specs.declared.ChipRecord.{ChipRecord}
-use Rattle.cart.specs.ChipState.{chipOf}
 use Rattle.c_record.specs.RecordBytes.{cartOf}
 use borrow.Author.Needs.{needs}
 use Rattle.c_record.proofs.fields.eeprom_of.Statement.{statement}
@@ -10,7 +8,7 @@ use Rattle.c_record.proofs.fields.eeprom_of.Tie as tie
 
 returns : tie.Need-returns
 unfolding cartOf
-returns c = ap (λ (x : ChipRecord). x .eeprom) (c .before .chip-of .ensures ∙ ap chipOf (rest 6 (c .before .before .before .before .args .bytes .now)))
+returns c = ap (λ (x : ChipRecord). x .eeprom) (c .before .chip-of .ensures)
 
 pub eeprom-of-spec : {M : Type 1} → statement M
 eeprom-of-spec =

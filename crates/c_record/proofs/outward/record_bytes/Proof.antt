@@ -1,16 +1,23 @@
 -- `c_record::outward::record_bytes` meets its contract. Assumes nothing.
 use native.Mathlib.Omega.{arith}
 use Rattle.kind.proofs.Numbers.{kind-lt}
+use Rattle.part.proofs.Numbers.{part-lt}
 use Rattle.c_record.proofs.RecordBytes.{record-spelled}
 use borrow.Author.Needs.{needs}
 use Rattle.c_record.proofs.outward.record_bytes.Statement.{statement}
 use Rattle.c_record.proofs.outward.record_bytes.Tie as tie
 
-cast-t18 : tie.Need-cast-t18
-cast-t18 c = omega (arith, kind-lt (c .before .before .before .before .before .before .before .args .cart .kind) (c .kind-number .ensures))
+cast-t19 : tie.Need-cast-t19
+cast-t19 c = omega (arith, kind-lt (c .before .before .before .before .before .before .before .args .cart .kind) (c .kind-number .ensures))
+
+cast-t76 : tie.Need-cast-t76
+cast-t76 c = omega (arith, part-lt (c .before .before .before .before .before .before .before .before .before .args .cart .part), c .part-number .ensures)
 
 returns : tie.Need-returns
-returns c = record-spelled (c .before .before .before .before .before .before .before .before .args .cart) (c .before .kind-number .result) (c .bit .result) (c .before .before .before .before .before .before .chip-bytes .result) (c .before .kind-number .ensures) (c .bit .ensures) (c .before .before .before .before .before .before .chip-bytes .ensures)
+returns c =
+    let k = c .before .before in
+    let b = k .before .before .before .before .before in
+    record-spelled (b .before .before .args .cart) (k .kind-number .result) (c .before .bit .result) (c .part-number .result) (b .chip-bytes .result) (k .kind-number .ensures) (c .before .bit .ensures) (c .part-number .ensures) (b .chip-bytes .ensures)
 
 pub record-bytes-spec : {M : Type 1} → statement M
 record-bytes-spec =
@@ -22,7 +29,7 @@ record-bytes-spec =
     (λ c. search needs)
     (λ c. search needs)
     (λ c κs. search needs)
-    cast-t18
+    cast-t19
     (λ c κs. search needs)
     (λ c. search needs)
     (λ c. search needs)
@@ -42,4 +49,6 @@ record-bytes-spec =
     (λ c. search needs)
     (λ c. search needs)
     (λ c. search needs)
+    (λ c κs. search needs)
+    cast-t76
     returns)
