@@ -30,7 +30,7 @@ module _ (r m : List ℕ) (v : Valid r) where
 
   -- and yes
   module _ (n : length m ≡ memorySize (cartOf r .kind)) where
-    pub read-yes : (a place x : ℕ) → x ≡ readByte (cartOf r .kind) (cartOf r .chip .flash) m a → (0, r, m, x) ≡ reads a r m place
+    pub read-yes : (a place x : ℕ) → x ≡ readByte (cartOf r .kind) (cartOf r .part) (cartOf r .chip .flash) m a → (0, r, m, x) ≡ reads a r m place
     unfolding questions accepted readSave
     read-yes a place x e =
         (λ i. (0, sym (v .back) i, m, e i)) ∙ ap (valueAt place) (done (saveRead a) [] r m v (memory-yes r m v [] n))

@@ -18,7 +18,13 @@ fn read_valid(cart: &RecordBytes, memory: &[u8], address: u32, value: &mut u32) 
     if memory.len() != kind::memory_size(kind) {
         return 3;
     }
-    *value = byte_step::read_byte(kind, c_record::flash_in(cart), memory, address) as u32;
+    *value = byte_step::read_byte(
+        kind,
+        c_record::part_in(cart),
+        c_record::flash_in(cart),
+        memory,
+        address,
+    ) as u32;
     0
 }
 

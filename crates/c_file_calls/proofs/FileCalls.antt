@@ -8,7 +8,6 @@ use Prim.Native.Nat.{ℕ, _≤_, _<_}
 use native.Mathlib.Omega.{arith}
 use lib.Dec.{eqb, leb}
 use lib.ListN.{length, getD, take}
-use lib.Seq.{getD-drop}
 use borrow.Author.Tests.{eq-eqb, ne-eqb, le-leb, lt-leb}
 use Rattle.lists.specs.Lists.{into}
 use Rattle.lists.specs.Questions.{asked}
@@ -27,13 +26,14 @@ use Rattle.c_record.specs.RecordBytes.{recordBytes, cartOf, Valid, stateOf}
 use Rattle.c_record.specs.Fields.{withLarge}
 use Rattle.c_record.specs.AtExit.{left, called, plain, exportAt}
 use Rattle.c_record.specs.Calls.{loads, exports, imports}
+use Rattle.c_record.proofs.RecordBytes.{chip-at}
 use Rattle.c_record.proofs.FieldBytes.{put-large}
 use Rattle.c_record.proofs.Calls.{memory-no, memory-yes, refused, done}
 
 -- `large`, by its byte
 pub large-read : (r : List ℕ) → eqb (getD r 10 0) 1 ≡ cartOf r .chip .eeprom .large
 unfolding cartOf chipOf
-large-read r = ap (λ (n : ℕ). eqb n 1) (sym (getD-drop 6 r 4 0))
+large-read r = ap (λ (n : ℕ). eqb n 1) (sym (chip-at r 4 (omega arith)))
 
 -- an export leaves the record and the memory
 exported-at : (f : Option (List ℕ)) (d : List ℕ) (s : State) (place : ℕ)

@@ -3,19 +3,20 @@ use c_record::RecordBytes;
 use c_record::layout;
 use cart::StateBytes;
 ghost use mathlib.Core.Path.{_≡_};
-ghost use mathlib.Core.List.{List, _++_};
+ghost use mathlib.Core.List.{List};
 ghost use Prim.Native.Nat.{ℕ};
-ghost use lib.ListN.{length, take, drop};
+ghost use lib.ListN.{length};
+ghost use Rattle.lists.specs.Lists.{withPart};
 ghost use Rattle.cart.specs.ChipState.{stateSize};
-ghost use Rattle.c_record.specs.RecordBytes.{recordSize, chipAt};
+ghost use Rattle.c_record.specs.RecordBytes.{recordSize, chipAt, chipIn};
 ghost use Rattle.c_record.specs.Calls.{opens, givesState, restores};
 
 // The record is written whatever it was: all 0 if the opening is refused.
-pub fn from_bytes(cart: &mut RecordBytes, image: &[u8], memory: &mut [u8]) -> u32
+pub fn from_bytes(cart: &mut RecordBytes, image: &[u8], part: u32, memory: &mut [u8]) -> u32
     ensures { λ x. ⌜ (x, now (cart .exit), now (memory .exit))
-        ≡ opens (now (image .entry)) (now (memory .entry)) ⌝ }
+        ≡ opens (now (image .entry)) part (now (memory .entry)) ⌝ }
 {
-    let opened = state_calls::from_bytes(image, memory);
+    let opened = state_calls::from_number(image, part, memory);
     let next = opened.cart;
     *cart = c_record::record_bytes(next);
     opened.refusal as u32
@@ -24,16 +25,16 @@ pub fn from_bytes(cart: &mut RecordBytes, image: &[u8], memory: &mut [u8]) -> u3
 // The chip record's bytes, out of a record and into one.
 fn copy_out(cart: &[u8], bytes: &mut [u8])
     requires { ⌜ (length (now cart) ≡ recordSize) × (length (now bytes) ≡ stateSize) ⌝ }
-    ensures { λ _. ⌜ now (bytes .exit) ≡ drop chipAt (now (cart .entry)) ⌝ }
+    ensures { λ _. ⌜ now (bytes .exit) ≡ chipIn (now (cart .entry)) ⌝ }
 {
-    memory::copy_file(bytes, &cart[layout::CHIP..]);
+    memory::copy_file(bytes, &cart[layout::CHIP..layout::PART]);
 }
 
 fn copy_in(cart: &mut [u8], bytes: &[u8])
     requires { ⌜ (length (now cart) ≡ recordSize) × (length (now bytes) ≡ stateSize) ⌝ }
-    ensures { λ _. ⌜ now (cart .exit) ≡ take chipAt (now (cart .entry)) ++ now (bytes .entry) ⌝ }
+    ensures { λ _. ⌜ now (cart .exit) ≡ withPart (now (cart .entry)) chipAt (now (bytes .entry)) ⌝ }
 {
-    memory::copy_file(&mut cart[layout::CHIP..], bytes);
+    memory::copy_file(&mut cart[layout::CHIP..layout::PART], bytes);
 }
 
 // The calls below take no memory; their contracts hold for any memory.

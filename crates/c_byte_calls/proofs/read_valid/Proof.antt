@@ -1,8 +1,6 @@
 -- `c_byte_calls::read_valid` meets its contract. Assumes nothing.
-use mathlib.Core.Path.{sym, ap, ap₂, _∙_}
-use Rattle.kind.specs.declared.SaveType.{SaveType}
+use mathlib.Core.Path.{sym, ap, _∙_}
 use Rattle.kind.specs.Kind.{memorySize}
-use Rattle.flash.specs.declared.Flash.{Flash}
 use Rattle.byte_step.specs.ByteStep.{readByte}
 use Rattle.c_byte_calls.proofs.ByteCalls.{read-no, read-yes}
 use borrow.Author.Needs.{needs}
@@ -17,11 +15,12 @@ returns c =
 
 returns-2 : tie.Need-returns-2
 returns-2 c =
-    let s = c .before .before .before .before .before .before in
-    let k = c .before .before .before .before .kind-in in
+    let q = c .before .before .before in
+    let k = q .before .before .kind-in in
+    let s = q .before .before .before .before in
     let m = s .args .memory .now in
-    read-yes (s .args .cart .now) m (s .pre) (c .before .before .if1 .left ∙ c .before .before .before .memory-size .ensures ∙ ap memorySize (k .ensures)) (s .args .address) (s .args .value .now) _
-    (c .read-byte .ensures ∙ ap₂ (λ (x : SaveType) (f : Flash). readByte x f m (s .args .address)) (k .ensures) (c .before .flash-in .ensures))
+    read-yes (s .args .cart .now) m (s .pre) (q .if1 .left ∙ q .before .memory-size .ensures ∙ ap memorySize (k .ensures)) (s .args .address) (s .args .value .now) _
+    (c .read-byte .ensures ∙ (λ i. readByte (k .ensures i) (c .before .before .part-in .ensures i) (c .before .flash-in .ensures i) m (s .args .address)))
 
 pub read-valid-spec : {M : Type 1} → statement M
 read-valid-spec =
@@ -30,6 +29,7 @@ read-valid-spec =
     (λ c κs. search needs)
     (λ c κs. search needs)
     returns
+    (λ c κs. search needs)
     (λ c κs. search needs)
     (λ c κs. search needs)
     (λ c. search needs)

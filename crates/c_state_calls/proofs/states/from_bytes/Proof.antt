@@ -8,7 +8,7 @@ returns : tie.Need-returns
 returns c =
     let o = c .before .before .before .before .before in
     let a = o .before .before .before .before .args in
-    opened (a .image .now) (a .memory .now) (o .from-bytes .result) (o .from-bytes .ensures) (c .before .record-bytes .ensures)
+    opened (a .image .now) (a .part) (a .memory .now) (o .from-number .result) (o .from-number .ensures) (c .before .record-bytes .ensures)
 
 pub from-bytes-spec : {M : Type 1} → statement M
 from-bytes-spec =
