@@ -82,13 +82,13 @@ found-quiet (takeSaveDirty p) o = refl
 found-quiet (importSave f p) o = refl
 
 -- an import is a load, or it is refused
-recoverable-import : (image f : List ℕ) (s : State) → Recoverable image s → Recoverable image (machine.importSave f s .next)
+recoverable-import : (image f : List ℕ) (s : State) → Recoverable image part s → Recoverable image part (machine.importSave f s .next)
 unfolding machine.importSave
 recoverable-import image f s r =
     let part : List ℕ = keptPart (s .cart .kind) f in
     let k = r .sound in
-    split (λ (o : Outcome). Recoverable image (o .next)) (eqb (asked (importQuestions f s)) 0)
-    (λ e. subst (Recoverable image) (load-next part s (record-allowed s k) (memory-fits s k)) (recoverable-step image (machine.loadSave part) [] s (λ a v p. cc) r))
+    split (λ (o : Outcome). Recoverable image part (o .next)) (eqb (asked (importQuestions f s)) 0)
+    (λ e. subst (Recoverable image part) (load-next part s (record-allowed s k) (memory-fits s k)) (recoverable-step image (machine.loadSave part) [] s (λ a v p. cc) r))
     (λ e. r)
 
 import-quiet : (f : List ℕ) (s : State) → unflagged (machine.importSave f (quiet s)) ≡ unflagged (machine.importSave f s)
@@ -99,11 +99,11 @@ import-same : (f : List ℕ) (s t : State) → quiet s ≡ quiet t → unflagged
 import-same f s t e = sym (import-quiet f s) ∙ ap (λ (z : State). unflagged (machine.importSave f z)) e ∙ import-quiet f t
 
 -- the machine's call is one of the nine, or import
-data Way (image : List ℕ) : (State → Outcome) → Type 0 where
+data Way (image : List ℕ) (part : ℕ) : (State → Outcome) → Type 0 where
   nine : (c : Call) (d : List ℕ) → NoByteWrite (detectSaveType image) c → Way image (step c d)
   import : (f : List ℕ) → Way image (machine.importSave f)
 
-way : (image : List ℕ) (c : ExportedCall) → ((a v : ℕ) → saveWrite a v ≡ c → usesEeprom (detectSaveType image) ≡ false) → Way image (outcomeOf c)
+way : (image : List ℕ) (part : ℕ) (c : ExportedCall) → ((a v : ℕ) → saveWrite a v ≡ c → usesEeprom (detectSaveType image) ≡ false) → Way image (outcomeOf c)
 way image (saveRead a p) n = nine (machine.saveRead a) [] (λ a v e. cc)
 way image (saveWrite a v) n = nine (machine.saveWrite a v) [] (λ b w e. n a v refl)
 way image (eepromBeginDma words) n = nine (machine.eepromBeginDma words) [] (λ a v e. cc)
@@ -115,13 +115,13 @@ way image (chipState p) n = nine machine.chipState [] (λ a v e. cc)
 way image (takeSaveDirty p) n = nine machine.takeSaveDirty [] (λ a v e. cc)
 way image (importSave f p) n = import f
 
-way-same : {image : List ℕ} {call : State → Outcome} → Way image call → (s t : State) → quiet s ≡ quiet t → unflagged (call s) ≡ unflagged (call t)
+way-same : {image : List ℕ} {part : ℕ} {call : State → Outcome} → Way image call → (s t : State) → quiet s ≡ quiet t → unflagged (call s) ≡ unflagged (call t)
 way-same (nine c d n) s t e = step-same c d s t e
 way-same (import f) s t e = import-same f s t e
 
-way-stands : {image : List ℕ} {call : State → Outcome} → Way image call → (s : State) → Recoverable image s → Recoverable image (call s .next)
-way-stands {image} (nine c d n) s r = recoverable-step image c d s n r
-way-stands {image} (import f) s r = recoverable-import image f s r
+way-stands : {image : List ℕ} {part : ℕ} {call : State → Outcome} → Way image call → (s : State) → Recoverable image part s → Recoverable image part (call s .next)
+way-stands {image} {part} (nine c d n) s r = recoverable-step image c d s n r
+way-stands {image} {part} (import f) s r = recoverable-import image f s r
 
 -- where a host goes on after a cut
 low-lt : (l : List ℕ) → areBytes l ≡ true → lowValue l < 256 ^ length l
@@ -136,13 +136,13 @@ acc-bytes r b h =
     let n : length l ≡ 8 = length-drop 10 (drop 6 r) ∙ ap (λ (k : ℕ). k - 10) (length-drop 6 r ∙ ap (λ (k : ℕ). k - 6) (yes r h .sizeOk)) in
     subst (λ (k : ℕ). lowValue l < 256 ^ k) n (low-lt l (bytes-drop 10 (drop 6 r) (bytes-drop 6 r b)))
 
-record Begun (image : List ℕ) (b : Bytes) : Type 0 where
+record Begun (image : List ℕ) (part : ℕ) (b : Bytes) : Type 0 where
   at : State
   is : b ≡ bytesOf at
-  isOpen : Open image at
+  isOpen : Open image part at
   accOk : at .cart .chip .eeprom .acc < 2 ^ 64
 
-begun-is : (image : List ℕ) (y : Target image) → Begun image (bytes.begun y)
+begun-is : (image : List ℕ) (part : ℕ) (y : Target image part) → Begun image (bytes.begun y)
 begun-is image (anew m h) =
     let k = sound-fresh image m h in
     record { at = fresh image; is = ap (λ (o : Outcome). bytesOf (o .next)) (opened image m h); isOpen = open-fresh image k; accOk = acc-lt (fresh image) k }
@@ -177,7 +177,7 @@ unfolding Long
 file-in none d p s h = refl
 file-in (some f) d p s h = rw (ne-eqb (length f) 0 h) (ap some (front-of f d))
 
-module _ (image : List ℕ) (x : Buffers image) (s : State) (r : Recoverable image s) where
+module _ (image : List ℕ) (part : ℕ) (x : Buffers image part) (s : State) (r : Recoverable image part s) where
   holds-file : length (s .memory) ≤ length (x .destination)
   holds-file =
       let n : length (s .memory) ≡ memorySize (detectSaveType image) = r .sound .memoryOk ∙ ap memorySize (r .kindIs) in
@@ -204,7 +204,7 @@ module _ (image : List ℕ) (x : Buffers image) (s : State) (r : Recoverable ima
   abbrev flag : Bool
   flag = begun-is image (x .target) .at .cart .dirty
 
-  cut-is : bytes.cut image x (bytesOf s) ≡ bytesOf (withFlag flag s)
+  cut-is : bytes.cut image part x (bytesOf s) ≡ bytesOf (withFlag flag s)
   unfolding bytes.cut
   cut-is =
       let y = begun-is image (x .target) in
@@ -221,23 +221,23 @@ module _ (image : List ℕ) (x : Buffers image) (s : State) (r : Recoverable ima
       ∙ ap bytesOf (resumed-is image s t r (y .isOpen))
 
 -- cuts, one after the other: the bytes of a state that differs from s in the flag alone
-record After (image : List ℕ) (b : Bytes) (s : State) : Type 0 where
+record After (image : List ℕ) (part : ℕ) (b : Bytes) (s : State) : Type 0 where
   at : State
   is : b ≡ bytesOf at
   alike : quiet at ≡ quiet s
-  stands : Recoverable image at
+  stands : Recoverable image part at
 
-cuts-are : (image : List ℕ) (xs : List (Buffers image)) (s : State) → Recoverable image s → After image (bytes.cuts image xs (bytesOf s)) s
+cuts-are : (image : List ℕ) (part : ℕ) (xs : List (Buffers image part)) (s : State) → Recoverable image part s → After image (bytes.cuts image part xs (bytesOf s)) s
 unfolding bytes.cuts
 cuts-are image [] s r = record { at = s; is = refl; alike = refl; stands = r }
 cuts-are image (x ∷ xs) s r =
     let i = cuts-are image xs (withFlag (flag image x s r) s) (recoverable-flag image (flag image x s r) s r) in
-    record { at = i .at; is = ap (bytes.cuts image xs) (cut-is image x s r) ∙ i .is; alike = i .alike; stands = i .stands }
+    record { at = i .at; is = ap (bytes.cuts image part xs) (cut-is image x s r) ∙ i .is; alike = i .alike; stands = i .stands }
 
 -- the host goes through the list with its cuts from s, the machine without from t
-runs-are : (image : List ℕ) (list : List (Turn image)) (end : Buffers image) (s t : State) → NoByteWrites image (callsOf list)
-    → quiet s ≡ quiet t → Recoverable image s → Recoverable image t
-    → bytes.run image list end (bytesOf s) ≡ machineRun (callsOf list) t
+runs-are : (image : List ℕ) (part : ℕ) (list : List (Turn image part)) (end : Buffers image part) (s t : State) → NoByteWrites image (callsOf list)
+    → quiet s ≡ quiet t → Recoverable image part s → Recoverable image part t
+    → bytes.run image part list end (bytesOf s) ≡ machineRun (callsOf list) t
 unfolding bytes.run machineRun
 runs-are image [] end s t n q r u =
     let l = left-same s t (r .sound) (u .sound) q in
@@ -251,39 +251,39 @@ runs-are image (x ∷ list) end s t n q r u =
     sym (found-quiet c (o s)) ∙ ap (foundOf c) e ∙ found-quiet c (o t)
     in
     let a = cuts-are image (x .cutsBehind) (o s .next) (way-stands w s r) in
-    let i : bytes.run image list end (bytes.cuts image (x .cutsBehind) (bytesOf (o s .next))) ≡ machineRun (callsOf list) (o t .next) =
-    ap (bytes.run image list end) (a .is)
+    let i : bytes.run image part list end (bytes.cuts image part (x .cutsBehind) (bytesOf (o s .next))) ≡ machineRun (callsOf list) (o t .next) =
+    ap (bytes.run image part list end) (a .is)
     ∙ runs-are image list end (a .at) (o t .next) (λ b v p. n b v (List·Memᴰ·tail p)) (a .alike ∙ ap (λ (z : Outcome). z .next) e) (a .stands) (way-stands w t u)
     in
-    ap (λ (m : Found × Bytes). before (m .0) (bytes.run image list end (bytes.cuts image (x .cutsBehind) (m .1)))) (make-is c s (r .sound))
+    ap (λ (m : Found × Bytes). before (m .0) (bytes.run image part list end (bytes.cuts image part (x .cutsBehind) (m .1)))) (make-is c s (r .sound))
     ∙ (λ j. before (f j) (i j))
 
-with-cuts : (image memory : List ℕ) (xs : List (Buffers image)) (list : List (Turn image)) (end : Buffers image)
-    → fromBytes image memory .refusal ≡ 0 → NoByteWrites image (callsOf list)
-    → bytes.run image list end (bytes.cuts image xs (bytes.opened image memory)) ≡ machineRun (callsOf list) (fromBytes image memory .next)
-with-cuts image memory xs list end h n =
-    let s : State = fromBytes image memory .next in
-    let r : Recoverable image s = rw (opened image memory h) (recoverable-fresh image memory h) in
+with-cuts : (image : List ℕ) (part : ℕ) (memory : List ℕ) (xs : List (Buffers image part)) (list : List (Turn image part)) (end : Buffers image part)
+    → fromBytes image part memory .refusal ≡ 0 → NoByteWrites image (callsOf list)
+    → bytes.run image part list end (bytes.cuts image part xs (bytes.opened image part memory)) ≡ machineRun (callsOf list) (fromBytes image part memory .next)
+with-cuts image part memory xs list end h n =
+    let s : State = fromBytes image part memory .next in
+    let r : Recoverable image part s = rw (opened image part memory h) (recoverable-fresh image part memory h) in
     let a = cuts-are image xs s r in
-    ap (bytes.run image list end) (a .is) ∙ runs-are image list end (a .at) s n (a .alike) (a .stands) r
+    ap (bytes.run image part list end) (a .is) ∙ runs-are image list end (a .at) s n (a .alike) (a .stands) r
 
-calls-uncut : {image : List ℕ} (list : List (Turn image)) → callsOf (uncut list) ≡ callsOf list
+calls-uncut : {image : List ℕ} {part : ℕ} (list : List (Turn image part)) → callsOf (uncut list) ≡ callsOf list
 calls-uncut [] = refl
 calls-uncut (x ∷ list) = ap (λ (l : List ExportedCall). x .call ∷ l) (calls-uncut list)
 
-without-cuts : (image memory : List ℕ) (list : List (Turn image)) (end : Buffers image)
-    → fromBytes image memory .refusal ≡ 0 → NoByteWrites image (callsOf list)
-    → bytes.run image (uncut list) end (bytes.opened image memory) ≡ machineRun (callsOf list) (fromBytes image memory .next)
+without-cuts : (image : List ℕ) (part : ℕ) (memory : List ℕ) (list : List (Turn image part)) (end : Buffers image part)
+    → fromBytes image part memory .refusal ≡ 0 → NoByteWrites image (callsOf list)
+    → bytes.run image part (uncut list) end (bytes.opened image part memory) ≡ machineRun (callsOf list) (fromBytes image part memory .next)
 unfolding bytes.cuts
-without-cuts image memory list end h n =
+without-cuts image part memory list end h n =
     let e = calls-uncut list in
-    with-cuts image memory [] (uncut list) end h (subst (NoByteWrites image) (sym e) n)
-    ∙ ap (λ (l : List ExportedCall). machineRun l (fromBytes image memory .next)) e
+    with-cuts image part memory [] (uncut list) end h (subst (NoByteWrites image) (sym e) n)
+    ∙ ap (λ (l : List ExportedCall). machineRun l (fromBytes image part memory .next)) e
 
 pub exported-cut-runs : ExportedCutRuns
 exported-cut-runs =
     record {
       asMachine = with-cuts;
-      asUncut = λ image memory xs list end h n.
-          with-cuts image memory xs list end h n ∙ sym (without-cuts image memory list end h n);
+      asUncut = λ image part memory xs list end h n.
+          with-cuts image part memory xs list end h n ∙ sym (without-cuts image part memory list end h n);
     }

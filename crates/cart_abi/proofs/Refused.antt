@@ -119,10 +119,10 @@ calls-leave (chipState p) b h z = state-leaves (ofNine machine.chipState []) b h
 calls-leave (takeSaveDirty p) b h z = flag-leaves (ofNine machine.takeSaveDirty []) b h z p
 calls-leave (importSave f p) b h z = value-leaves (ofImport f) b h z p
 
-opening : (image m : List ℕ) → calls.opens image m .0 ≢ 0 → calls.opens image m ≡ (calls.opens image m .0, replicate 24 0, m)
+opening : (image : List ℕ) (part : ℕ) (m : List ℕ) → calls.opens image part m .0 ≢ 0 → calls.opens image part m ≡ (calls.opens image part m .0, replicate 25 0, m)
 unfolding fromBytes
-opening image m =
-    split (λ (o : Outcome). o .refusal ≢ 0 → plain (left o) ≡ (o .refusal, replicate 24 0, m)) (eqb (asked (openQuestions image m)) 0) (λ t h. absurd (h refl))
+opening image part m =
+    split (λ (o : Outcome). o .refusal ≢ 0 → plain (left o) ≡ (o .refusal, replicate 25 0, m)) (eqb (asked (openQuestions image part m)) 0) (λ t h. absurd (h refl))
     (λ t h. rw (record-and-bytes .nothing))
 
 -- the calls of a record alone, and of an image

@@ -39,7 +39,8 @@ pub record RefusedLeaves : Type 0 where
       → make c b ≡ unchanged c (make c b .found .answer) b
   pub restore : (state r m : List ℕ) → areBytes r ≡ true → restores state r m .0 ≢ 0
       → restores state r m ≡ (restores state r m .0, r, m)
-  pub opening : (image m : List ℕ) → opens image m .0 ≢ 0 → opens image m ≡ (opens image m .0, noRecord, m)
+  pub opening : (image : List ℕ) (part : ℕ) (m : List ℕ) → opens image part m .0 ≢ 0
+      → opens image part m ≡ (opens image part m .0, noRecord, m)
   -- the calls that answer one number of a record alone, or of an image; and the title
   pub ofRecord : (ask : Cartridge → Answer) (r : List ℕ) (p : ℕ) → askedAt ask r p .0 ≢ 0
       → askedAt ask r p ≡ (askedAt ask r p .0, p)

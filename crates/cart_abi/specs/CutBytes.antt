@@ -21,43 +21,43 @@ use Rattle.cart_abi.specs.Host.{ExportedCall, saveRead, saveWrite, eepro
 use Rattle.cart_abi.specs.Host.{loadSave, saveData, chipState, takeSaveDirty, importSave}
 use Rattle.cart_abi.specs.Host.{Bytes, Found, found, plainly, make}
 
--- a valid record's bytes and a memory that are a cartridge of the image, whatever its chip, memory and flag hold
-pub record OpenBytes (image : List ℕ) (b : Bytes) : Type 0 where
+-- a valid record's bytes and a memory that are a cartridge of the image with the part, whatever its chip, memory and flag hold
+pub record OpenBytes (image : List ℕ) (part : ℕ) (b : Bytes) : Type 0 where
   pub bytesOk : areBytes (b .bytes) ≡ true
   pub valid : isRecord (b .bytes) ≡ true
-  pub isOpen : Open image (stateOf (b .bytes) (b .memory))
+  pub isOpen : Open image part (stateOf (b .bytes) (b .memory))
 
--- where a host goes on after a cut: "open the same image", with a memory; or, without an opening, in a cartridge of
--- the image that is open
-pub data Target (image : List ℕ) : Type 0 where
-  anew : (memory : List ℕ) → opens image memory .0 ≡ 0 → Target image
-  inPlace : (b : Bytes) → OpenBytes image b → Target image
+-- where a host goes on after a cut: "open the same image", with the same part and a memory; or, without an opening, in a cartridge of
+-- the image and part that is open
+pub data Target (image : List ℕ) (part : ℕ) : Type 0 where
+  anew : (memory : List ℕ) → opens image part memory .0 ≡ 0 → Target image part
+  inPlace : (b : Bytes) → OpenBytes image part b → Target image part
 
-abbrev pub opened : List ℕ → List ℕ → Bytes
-opened image memory = plainly (opens image memory) .next
+abbrev pub opened : List ℕ → ℕ → List ℕ → Bytes
+opened image part memory = plainly (opens image part memory) .next
 
-abbrev pub begun : {image : List ℕ} → Target image → Bytes
-begun {image} (anew memory h) = opened image memory
+abbrev pub begun : {image : List ℕ} {part : ℕ} → Target image part → Bytes
+begun {image} {part} (anew memory h) = opened image part memory
 begun (inPlace b h) = b
 
 -- what a host has for a cut: a destination as long as the kind's memory at least, places for the file's length and for
 -- the state, whatever they hold, and where it goes on
-pub record Buffers (image : List ℕ) : Type 0 where
+pub record Buffers (image : List ℕ) (part : ℕ) : Type 0 where
   pub destination : List ℕ
   pub fileLength : ℕ
   pub state : List ℕ
-  pub target : Target image
+  pub target : Target image part
   pub holds : memorySize (detectSaveType image) ≤ length destination
 
 -- "it leaves the file that an accepted export gives there, where the kind has one": a length of 0 says that it has none
 abbrev pub fileIn : ℕ → List ℕ → Option (List ℕ)
 fileIn n d = cond (eqb n 0) none (some (take n d))
 
-unfoldable pub fileLeft : {image : List ℕ} → Buffers image → Bytes → Option (List ℕ)
+unfoldable pub fileLeft : {image : List ℕ} {part : ℕ} → Buffers image part → Bytes → Option (List ℕ)
 fileLeft x b = let e = exports (x .destination) (b .bytes) (b .memory) (x .fileLength) in fileIn (e .4) (e .3)
 
 -- "and the 18 bytes of `chip_state`"
-unfoldable pub stateLeft : {image : List ℕ} → Buffers image → Bytes → List ℕ
+unfoldable pub stateLeft : {image : List ℕ} {part : ℕ} → Buffers image part → Bytes → List ℕ
 stateLeft x b = givesState (b .bytes) (b .memory) (x .state) .3
 
 -- "load the file where there is one, restore"
@@ -68,17 +68,17 @@ reloaded (some f) b = plainly (loads f (b .bytes) (b .memory)) .next
 abbrev pub restored : List ℕ → Bytes → Bytes
 restored state b = plainly (restores state (b .bytes) (b .memory)) .next
 
-unfoldable pub cut : (image : List ℕ) → Buffers image → Bytes → Bytes
-cut image x b = restored (stateLeft x b) (reloaded (fileLeft x b) (begun (x .target)))
+unfoldable pub cut : (image : List ℕ) (part : ℕ) → Buffers image part → Bytes → Bytes
+cut image part x b = restored (stateLeft x b) (reloaded (fileLeft x b) (begun (x .target)))
 
-unfoldable pub cuts : (image : List ℕ) → List (Buffers image) → Bytes → Bytes
-cuts image [] b = b
-cuts image (x ∷ xs) b = cuts image xs (cut image x b)
+unfoldable pub cuts : (image : List ℕ) (part : ℕ) → List (Buffers image part) → Bytes → Bytes
+cuts image part [] b = b
+cuts image part (x ∷ xs) b = cuts image part xs (cut image part x b)
 
 -- a call of the list, and the cuts after it
-pub record Turn (image : List ℕ) : Type 0 where
+pub record Turn (image : List ℕ) (part : ℕ) : Type 0 where
   pub call : ExportedCall
-  pub cutsBehind : List (Buffers image)
+  pub cutsBehind : List (Buffers image part)
 
 -- "Compared are the answers of the list's own calls, with refusal numbers and the bytes of export destinations, and
 -- at the list's end the file, or that there is none, and the 18 bytes. Left out are the answer of `take_save_dirty`
@@ -92,11 +92,11 @@ abbrev pub before : Found → Compared → Compared
 before f r = record { calls = f ∷ r .calls; file = r .file; state = r .state }
 
 -- `end` is passed at the list's end
-unfoldable pub run : (image : List ℕ) → List (Turn image) → Buffers image → Bytes → Compared
-run image [] end b = record { calls = []; file = fileLeft end b; state = stateLeft end b }
-run image (t ∷ list) end b =
+unfoldable pub run : (image : List ℕ) (part : ℕ) → List (Turn image part) → Buffers image part → Bytes → Compared
+run image part [] end b = record { calls = []; file = fileLeft end b; state = stateLeft end b }
+run image part (t ∷ list) end b =
     let m = make (t .call) b in
-    before (m .found) (run image list end (cuts image (t .cutsBehind) (m .next)))
+    before (m .found) (run image part list end (cuts image part (t .cutsBehind) (m .next)))
 
 -- document 01's machine, and what of its answers a host finds
 abbrev pub outcomeOf : ExportedCall → State → Outcome
@@ -131,10 +131,10 @@ unfoldable pub machineRun : List ExportedCall → State → Compared
 machineRun [] s = record { calls = []; file = machineFile s; state = machineState s }
 machineRun (c ∷ list) s = let o = outcomeOf c s in before (foundOf c o) (machineRun list (o .next))
 
-abbrev pub callsOf : {image : List ℕ} → List (Turn image) → List ExportedCall
+abbrev pub callsOf : {image : List ℕ} {part : ℕ} → List (Turn image part) → List ExportedCall
 callsOf = map (λ t. t .call)
 
-abbrev pub uncut : {image : List ℕ} → List (Turn image) → List (Turn image)
+abbrev pub uncut : {image : List ℕ} {part : ℕ} → List (Turn image part) → List (Turn image part)
 uncut = map (λ t. record { call = t .call; cutsBehind = [] })
 
 -- "no byte write to an EEPROM cartridge"
@@ -145,13 +145,13 @@ NoByteWrites image list =
 -- demand 3 of the exported calls: after an accepted opening and any cuts, a list with its cuts shows what document
 -- 01's machine shows uncut, and so what the list shows without its cuts
 pub record ExportedCutRuns : Type 0 where
-  pub asMachine : (image memory : List ℕ) (atFirst : List (Buffers image))
-      → (list : List (Turn image)) (end : Buffers image)
-      → opens image memory .0 ≡ 0 → NoByteWrites image (callsOf list)
-      → run image list end (cuts image atFirst (opened image memory))
-      ≡ machineRun (callsOf list) (fromBytes image memory .next)
-  pub asUncut : (image memory : List ℕ) (atFirst : List (Buffers image))
-      → (list : List (Turn image)) (end : Buffers image)
-      → opens image memory .0 ≡ 0 → NoByteWrites image (callsOf list)
-      → run image list end (cuts image atFirst (opened image memory))
-      ≡ run image (uncut list) end (opened image memory)
+  pub asMachine : (image : List ℕ) (part : ℕ) (memory : List ℕ) (atFirst : List (Buffers image part))
+      → (list : List (Turn image part)) (end : Buffers image part)
+      → opens image part memory .0 ≡ 0 → NoByteWrites image (callsOf list)
+      → run image part list end (cuts image part atFirst (opened image part memory))
+      ≡ machineRun (callsOf list) (fromBytes image part memory .next)
+  pub asUncut : (image : List ℕ) (part : ℕ) (memory : List ℕ) (atFirst : List (Buffers image part))
+      → (list : List (Turn image part)) (end : Buffers image part)
+      → opens image part memory .0 ≡ 0 → NoByteWrites image (callsOf list)
+      → run image part list end (cuts image part atFirst (opened image part memory))
+      ≡ run image part (uncut list) end (opened image part memory)

@@ -1,6 +1,7 @@
-// The calls on an image, or on a kind's number.
+// The calls on an image, or on a kind's and a part's number.
 ghost use mathlib.Core.Path.{_≡_};
 ghost use Rattle.out_params.specs.Places.{answeredAt, kindAnswer, titleAt, fitAnswer, memorySizeAnswer, sizeAnswer};
+ghost use Rattle.out_params.specs.Places.{idWordAnswer};
 ghost use Rattle.out_params.specs.Places.{told};
 ghost use Rattle.image.specs.Image.{read as read·spec, headerChecksum};
 ghost use Rattle.title.specs.Title.{headerTitle};
@@ -106,4 +107,11 @@ pub extern "C" fn gbasave_memory_size(kind: u32, size: &mut u32) -> u32
     ensures { λ x. ⌜ (x, now (size .exit)) ≡ answeredAt (memorySizeAnswer kind) (now (size .entry)) ⌝ }
 {
     c_image_calls::memory_size(kind, size)
+}
+
+#[no_mangle]
+pub extern "C" fn gbasave_id_word(part: u32, kind: u32, word: &mut u32) -> u32
+    ensures { λ x. ⌜ (x, now (word .exit)) ≡ answeredAt (idWordAnswer part kind) (now (word .entry)) ⌝ }
+{
+    c_image_calls::id_word(part, kind, word)
 }

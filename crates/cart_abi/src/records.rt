@@ -92,11 +92,16 @@ pub extern "C" fn gbasave_import_save(
 }
 
 #[no_mangle]
-pub extern "C" fn gbasave_from_bytes(cart: &mut RecordBytes, image: &[u8], memory: &mut [u8]) -> u32
+pub extern "C" fn gbasave_from_bytes(
+    cart: &mut RecordBytes,
+    image: &[u8],
+    part: u32,
+    memory: &mut [u8],
+) -> u32
     ensures { λ x. ⌜ (x, now (cart .exit), now (memory .exit))
-        ≡ opens (now (image .entry)) (now (memory .entry)) ⌝ }
+        ≡ opens (now (image .entry)) part (now (memory .entry)) ⌝ }
 {
-    c_state_calls::from_bytes(cart, image, memory)
+    c_state_calls::from_bytes(cart, image, part, memory)
 }
 
 #[no_mangle]

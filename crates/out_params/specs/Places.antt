@@ -7,6 +7,7 @@ use Rattle.lists.specs.Questions.{_else_}
 use Rattle.image.specs.declared.Answer.{Answer}
 use Rattle.image.specs.Image.{imageQuestion, accepted, answered}
 use Rattle.kind.specs.Kind.{kindNumber, kindOf, memorySize, detectSaveType}
+use Rattle.part.specs.Part.{partOf, idWord, numberFits}
 use Rattle.file_sizes.specs.declared.SaveFit.{SaveFit}
 use Rattle.file_sizes.specs.declared.SaveFit.the-variants.{Keeps, Refused}
 use Rattle.file_sizes.specs.SaveFit.{saveFitOf, saveSizeOf}
@@ -44,3 +45,8 @@ sizeAnswer image = accepted (saveSizeOf image)
 -- the memory size by a kind's number; a number that is none is 2
 unfoldable pub memorySizeAnswer : ℕ → Answer
 memorySizeAnswer kind = answered (leb kind 5 else 2 ∷ []) (memorySize (kindOf kind))
+
+-- the ID word of a part on a kind, both by number; a part that does not fit the kind is 15
+unfoldable pub idWordAnswer : ℕ → ℕ → Answer
+idWordAnswer part kind =
+    answered (leb kind 5 else 2 ∷ numberFits part (kindOf kind) else 15 ∷ []) (idWord (partOf part) (kindOf kind))
