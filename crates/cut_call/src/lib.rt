@@ -36,7 +36,13 @@ fn resume(image: &[u8], part: u32, memory: &mut [u8], file: &[u8], bytes: &[u8])
 }
 
 // The scratch holds the file between export and load.
-pub fn cut(image: &[u8], part: u32, cart: Cartridge, memory: &mut [u8], scratch: &mut [u8]) -> Cartridge
+pub fn cut(
+    image: &[u8],
+    part: u32,
+    cart: Cartridge,
+    memory: &mut [u8],
+    scratch: &mut [u8],
+) -> Cartridge
     requires { ⌜ recordAllowed cart ≡ true ⌝ }
     requires { ⌜ length (now memory) ≡ memorySize (cart .kind) ⌝ }
     requires { ⌜ length (now memory) ≤ length (now scratch) ⌝ }
