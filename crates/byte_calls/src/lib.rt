@@ -15,9 +15,10 @@ fn read_save(cart: Cartridge, memory: &[u8], address: u32) -> u8
     ensures { λ r. ⌜ r ≡ readSave (cart .kind) (state cart (now (memory .entry))) address ⌝ }
 {
     let kind = cart.kind;
+    let part = cart.part;
     let chip = cart.chip;
     let flash = chip.flash;
-    byte_step::read_byte(kind, flash, memory, address)
+    byte_step::read_byte(kind, part, flash, memory, address)
 }
 
 pub fn save_read(cart: Cartridge, memory: &[u8], address: u32) -> Reply

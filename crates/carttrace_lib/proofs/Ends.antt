@@ -96,6 +96,6 @@ pub ends : Ends
 unfolding opened pushedAll
 ends =
     record {
-      atBadFirst = λ input m h. at-bad-first input [] (freshCart 0 _) m h;
+      atBadFirst = λ input m h. at-bad-first input [] (freshCart 0 _ _) m h;
       nothingMore = λ s input m h. nothing-more (s .stage) (s .line) (s .cart) input m h;
     }

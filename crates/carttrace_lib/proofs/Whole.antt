@@ -13,6 +13,8 @@ use Rattle.hex.specs.Hex.{valueOf}
 use Rattle.image.specs.Image.{imageLength}
 use Rattle.memory.specs.Memory.{erased}
 use Rattle.kind.specs.Kind.{memorySize}
+use Rattle.part.specs.declared.Part.the-variants.{Usual}
+use Rattle.part.specs.Part.{partFits}
 use Rattle.cart.specs.declared.Cartridge.{Cartridge}
 use Rattle.cart.specs.Record.{State, freshCart}
 use Rattle.cart.specs.Calls.{saveRead, saveWrite, eepromBeginDma, eepromWrite, eepromRead, chipState, takeSaveDirty}
@@ -127,12 +129,12 @@ playing (c ∷ input) line cart m k =
 -- at the end of line 1, and what is printed after it
 first-end : (f : FirstLine) (input : List ℕ) (s : Session) (m : List ℕ) → let h = begun f s m in
     h .text ++ printedBy input (h .session) (h .memory) ≡ playFrom f (linesFrom [] input)
-unfolding begun freshKind imageLength pushedAll
+unfolding begun freshKind imageLength partFits pushedAll
 first-end NoKind input s m = rw (over-silent input emptyLine (s .cart) m) (append-nil (lineOf 0xff []))
 first-end (Fresh kind) input s m =
     let n = memorySize kind in
-    let cart = freshCart 192 kind in
-    let k = sound-kind 192 kind refl in
+    let cart = freshCart 192 kind Usual in
+    let k = sound-kind 192 kind Usual refl refl in
     let f = front-memory (state cart (erased n)) (drop n m) k in
     ap (λ (r : List ℕ). lineOf 0 [] ++ r)
     (playing input [] cart (erased n ++ drop n m) (rw f k) ∙ ap (λ (w : List ℕ). playAll (linesFrom [] input) (state cart w)) f)
@@ -169,4 +171,4 @@ in-pieces (p ∷ ps) s m =
 
 pub whole : Whole
 unfolding opened carttrace pushedAll
-whole ps m = in-pieces ps opened m ∙ starting (joined ps) [] (freshCart 0 _) m
+whole ps m = in-pieces ps opened m ∙ starting (joined ps) [] (freshCart 0 _ _) m

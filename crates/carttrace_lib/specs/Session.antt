@@ -8,6 +8,7 @@ use Rattle.lists.specs.Lists.{into}
 use Rattle.memory.specs.Memory.{erased}
 use Rattle.kind.specs.declared.SaveType.the-variants.{None}
 use Rattle.kind.specs.Kind.{memorySize}
+use Rattle.part.specs.declared.Part.the-variants.{Usual}
 use Rattle.cart.specs.declared.Cartridge.{Cartridge}
 use Rattle.cart.specs.Record.{freshCart}
 use Rattle.cart.specs.Replies.{state}
@@ -25,7 +26,7 @@ abbrev pub sessionWith : Stage → Line → Cartridge → Session
 sessionWith stage line cart = record { stage = stage; line = line; cart = cart }
 
 unfoldable pub opened : Session
-opened = sessionWith First emptyLine (freshCart 0 None)
+opened = sessionWith First emptyLine (freshCart 0 None Usual)
 
 -- what a character, or a line's end, prints and leaves; the memory of every kind is at the front of one buffer
 pub record Heard : Type 0 where
@@ -40,7 +41,7 @@ heard text session memory = record { text = text; session = session; memory = me
 unfoldable pub begun : FirstLine → Session → List ℕ → Heard
 begun (Fresh kind) s m =
     let n = memorySize kind in
-    heard (lineOf 0 []) (sessionWith Playing emptyLine (freshCart 192 kind)) (erased n ++ drop n m)
+    heard (lineOf 0 []) (sessionWith Playing emptyLine (freshCart 192 kind Usual)) (erased n ++ drop n m)
 begun NoKind s m = heard (lineOf 0xff []) (sessionWith Over emptyLine (s .cart)) m
 
 unfoldable pub continued : Session → List ℕ → Heard

@@ -8,6 +8,7 @@ use Rattle.lists.specs.Lists.{into}
 use Rattle.memory.specs.Memory.{erased}
 use Rattle.kind.specs.declared.SaveType.{SaveType}
 use Rattle.kind.specs.Kind.{memorySize}
+use Rattle.part.specs.declared.Part.the-variants.{Usual}
 use Rattle.cart.specs.declared.Cartridge.{Cartridge}
 use Rattle.cart.specs.declared.Reply.{Reply}
 use Rattle.cart.specs.ChipState.{bit, stateSize}
@@ -53,9 +54,9 @@ unfoldable pub playAll : List (List ℕ) → State → List ℕ
 playAll [] s = []
 playAll (line ∷ lines) s = let p = play (frame line) s in p .text ++ playAll lines (p .next)
 
--- "Line 1 is a fresh kind with image length 192"
+-- "Line 1 is a fresh kind with image length 192", with the usual part
 unfoldable pub freshKind : SaveType → State
-freshKind kind = state (freshCart 192 kind) (erased (memorySize kind))
+freshKind kind = state (freshCart 192 kind Usual) (erased (memorySize kind))
 
 -- "and ends if that is line 1. No input, no output."
 abbrev pub playFrom : FirstLine → List (List ℕ) → List ℕ

@@ -11,6 +11,7 @@ use frames::Line;
 use kind::SaveType;
 use memory::NO_FILE;
 use memory::Store;
+use part::Part;
 ghost use mathlib.Core.Path.{_≡_};
 ghost use Prim.Native.Nat.{_*_, _≤_};
 ghost use lib.ListN.{length};
@@ -44,7 +45,7 @@ pub fn opened() -> Session
     session_with(
         Stage::First,
         frames::empty_line(),
-        cart::fresh_cart(0, SaveType::None),
+        cart::fresh_cart(0, SaveType::None, Part::Usual),
     )
 }
 
@@ -63,7 +64,7 @@ fn begin(first: FirstLine, session: Session, memory: &mut [u8], out: &mut [u8]) 
                 session_with(
                     Stage::Playing,
                     frames::empty_line(),
-                    cart::fresh_cart(192, kind),
+                    cart::fresh_cart(192, kind, Part::Usual),
                 ),
                 print_status(out, 0),
             )

@@ -5,12 +5,15 @@ use mathlib.Core.Bool.{Bool}
 use mathlib.Core.List.{List}
 use Prim.Native.Nat.{ℕ}
 use Rattle.kind.specs.declared.SaveType.{SaveType}
+use Rattle.part.specs.declared.Part.{Part}
 use Rattle.cart.specs.declared.ChipRecord.{ChipRecord}
 use Rattle.chip_by_reference.specs.Lent.{plainCall, apart, together}
 
-pub record ThinCall (len : ℕ) (kind : SaveType) (dirty : Bool) (chip : ChipRecord) (m : List ℕ) (v : ℕ) : Type 0 where
+pub record ThinCall (len : ℕ) (kind : SaveType) (part : Part) (dirty : Bool)
+    (chip : ChipRecord) (m : List ℕ) (v : ℕ) : Type 0 where
   -- "its other answers those of the plain call": nothing that the plain call answers is lost
-  pub samePlain : together len kind (apart (plainCall len kind dirty chip m v)) ≡ plainCall len kind dirty chip m v
+  pub samePlain : together len kind part (apart (plainCall len kind part dirty chip m v))
+      ≡ plainCall len kind part dirty chip m v
   -- "A no returns the number, the record as given, all buffers unchanged"
-  pub refusedLeaves : (n : ℕ) → n ≢ 0 → plainCall len kind dirty chip m v .0 .refusal ≡ n
-      → apart (plainCall len kind dirty chip m v) ≡ (record { refusal = n; dirty = dirty }, chip, m)
+  pub refusedLeaves : (n : ℕ) → n ≢ 0 → plainCall len kind part dirty chip m v .0 .refusal ≡ n
+      → apart (plainCall len kind part dirty chip m v) ≡ (record { refusal = n; dirty = dirty }, chip, m)

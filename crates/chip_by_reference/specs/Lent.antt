@@ -4,6 +4,7 @@ use mathlib.Core.Bool.{Bool}
 use mathlib.Core.List.{List, []}
 use Prim.Native.Nat.{ℕ}
 use Rattle.kind.specs.declared.SaveType.{SaveType}
+use Rattle.part.specs.declared.Part.{Part}
 use Rattle.cart.specs.declared.ChipRecord.{ChipRecord}
 use Rattle.cart.specs.declared.Cartridge.{Cartridge}
 use Rattle.cart.specs.declared.Reply.{Reply}
@@ -12,17 +13,18 @@ use Rattle.cart.specs.Replies.{state, reply, replied}
 use Rattle.chip_by_reference.specs.declared.LentReply.{LentReply}
 
 -- the record that the parameters make
-abbrev pub cartFrom : ℕ → SaveType → Bool → ChipRecord → Cartridge
-cartFrom len kind dirty chip = record { len = len; kind = kind; dirty = dirty; chip = chip }
+abbrev pub cartFrom : ℕ → SaveType → Part → Bool → ChipRecord → Cartridge
+cartFrom len kind part dirty chip = record { len = len; kind = kind; part = part; dirty = dirty; chip = chip }
 
 -- what the contract of `serial_calls::eeprom_write` says of it
-abbrev pub plainCall : ℕ → SaveType → Bool → ChipRecord → List ℕ → ℕ → Reply × List ℕ
-plainCall len kind dirty chip m v = replied (step (eepromWrite v) [] (state (cartFrom len kind dirty chip) m))
+abbrev pub plainCall : ℕ → SaveType → Part → Bool → ChipRecord → List ℕ → ℕ → Reply × List ℕ
+plainCall len kind part dirty chip m v =
+    replied (step (eepromWrite v) [] (state (cartFrom len kind part dirty chip) m))
 
 -- a reply and a memory, with the chip record apart
 abbrev pub apart : Reply × List ℕ → LentReply × ChipRecord × List ℕ
 apart p = (record { refusal = p .0 .refusal; dirty = p .0 .cart .dirty }, p .0 .cart .chip, p .1)
 
 -- and together again; the plain call's value is 0
-abbrev pub together : ℕ → SaveType → LentReply × ChipRecord × List ℕ → Reply × List ℕ
-together len kind p = (reply (p .0 .refusal) 0 (cartFrom len kind (p .0 .dirty) (p .1)), p .2)
+abbrev pub together : ℕ → SaveType → Part → LentReply × ChipRecord × List ℕ → Reply × List ℕ
+together len kind part p = (reply (p .0 .refusal) 0 (cartFrom len kind part (p .0 .dirty) (p .1)), p .2)

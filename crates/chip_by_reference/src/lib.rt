@@ -3,6 +3,7 @@
 use cart::Cartridge;
 use cart::ChipRecord;
 use kind::SaveType;
+use part::Part;
 ghost use mathlib.Core.Path.{_≡_};
 ghost use Rattle.chip_by_reference.specs.Lent.{plainCall, apart};
 
@@ -22,16 +23,18 @@ pub fn eeprom_write_chip(
     chip: ChipRecord,
     len: usize,
     kind: SaveType,
+    part: Part,
     dirty: bool,
     memory: &mut [u8],
     value: u16,
 ) -> ChipReply
     ensures { λ r. ⌜ (r .reply, r .chip, now (memory .exit))
-        ≡ apart (plainCall len kind dirty chip (now (memory .entry)) value) ⌝ }
+        ≡ apart (plainCall len kind part dirty chip (now (memory .entry)) value) ⌝ }
 {
     let cart = Cartridge {
         len: len,
         kind: kind,
+        part: part,
         dirty: dirty,
         chip: chip,
     };
@@ -52,14 +55,15 @@ pub fn eeprom_write_lent(
     chip: &mut ChipRecord,
     len: usize,
     kind: SaveType,
+    part: Part,
     dirty: bool,
     memory: &mut [u8],
     value: u16,
 ) -> LentReply
     ensures { λ r. ⌜ (r, now (chip .exit), now (memory .exit))
-        ≡ apart (plainCall len kind dirty (now (chip .entry)) (now (memory .entry)) value) ⌝ }
+        ≡ apart (plainCall len kind part dirty (now (chip .entry)) (now (memory .entry)) value) ⌝ }
 {
-    let next = eeprom_write_chip(*chip, len, kind, dirty, memory, value);
+    let next = eeprom_write_chip(*chip, len, kind, part, dirty, memory, value);
     *chip = next.chip;
     next.reply
 }
@@ -69,15 +73,16 @@ pub fn eeprom_write_copy(
     chip: ChipRecord,
     len: usize,
     kind: SaveType,
+    part: Part,
     dirty: bool,
     memory: &mut [u8],
     value: u16,
 ) -> ChipReply
     ensures { λ r. ⌜ (r .reply, r .chip, now (memory .exit))
-        ≡ apart (plainCall len kind dirty chip (now (memory .entry)) value) ⌝ }
+        ≡ apart (plainCall len kind part dirty chip (now (memory .entry)) value) ⌝ }
 {
     let mut copy = chip;
-    let reply = eeprom_write_lent(&mut copy, len, kind, dirty, memory, value);
+    let reply = eeprom_write_lent(&mut copy, len, kind, part, dirty, memory, value);
     ChipReply {
         chip: copy,
         reply: reply,

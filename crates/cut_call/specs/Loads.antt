@@ -1,4 +1,4 @@
--- After a cut: the same image opened, the file loaded where there is one, the state restored.
+-- After a cut: the same image opened with the same part, the file loaded where there is one, the state restored.
 use mathlib.Core.Bool.{cond}
 use mathlib.Core.List.{List, []}
 use Prim.Native.Nat.{ℕ}
@@ -11,5 +11,5 @@ use Rattle.cart.specs.Calls.{loadSave, step, restore}
 abbrev pub loadedFrom : List ℕ → State → State
 loadedFrom f t = cond (eqb (length f) 0) t (step (loadSave f) [] t .next)
 
-abbrev pub resumed : List ℕ → List ℕ → List ℕ → List ℕ → State
-resumed image memory file bytes = restore bytes (loadedFrom file (fromBytes image memory .next)) .next
+abbrev pub resumed : List ℕ → ℕ → List ℕ → List ℕ → List ℕ → State
+resumed image part memory file bytes = restore bytes (loadedFrom file (fromBytes image part memory .next)) .next

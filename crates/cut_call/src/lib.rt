@@ -23,12 +23,12 @@ fn load_where_there_is_one(cart: Cartridge, memory: &mut [u8], file: &[u8]) -> C
     loaded.cart
 }
 
-// Opens the same image, loads the file and restores the chip.
-fn resume(image: &[u8], memory: &mut [u8], file: &[u8], bytes: &[u8]) -> Cartridge
+// Opens the same image with the same part, loads the file and restores the chip.
+fn resume(image: &[u8], part: u32, memory: &mut [u8], file: &[u8], bytes: &[u8]) -> Cartridge
     ensures { λ r. ⌜ state r (now (memory .exit))
-        ≡ resumed (now (image .entry)) (now (memory .entry)) (now (file .entry)) (now (bytes .entry)) ⌝ }
+        ≡ resumed (now (image .entry)) part (now (memory .entry)) (now (file .entry)) (now (bytes .entry)) ⌝ }
 {
-    let opened = state_calls::from_bytes(image, memory);
+    let opened = state_calls::from_number(image, part, memory);
     let fresh = opened.cart;
     let loaded = load_where_there_is_one(fresh, memory, file);
     let restored = state_calls::restore_chip_state(loaded, bytes);
@@ -36,17 +36,23 @@ fn resume(image: &[u8], memory: &mut [u8], file: &[u8], bytes: &[u8]) -> Cartrid
 }
 
 // The scratch holds the file between export and load.
-pub fn cut(image: &[u8], cart: Cartridge, memory: &mut [u8], scratch: &mut [u8]) -> Cartridge
+pub fn cut(
+    image: &[u8],
+    part: u32,
+    cart: Cartridge,
+    memory: &mut [u8],
+    scratch: &mut [u8],
+) -> Cartridge
     requires { ⌜ recordAllowed cart ≡ true ⌝ }
     requires { ⌜ length (now memory) ≡ memorySize (cart .kind) ⌝ }
     requires { ⌜ length (now memory) ≤ length (now scratch) ⌝ }
     ensures { λ r. ⌜ state r (now (memory .exit))
-        ≡ cut·spec (now (image .entry)) (now (memory .entry)) (state cart (now (memory .entry))) ⌝ }
+        ≡ cut·spec (now (image .entry)) part (now (memory .entry)) (state cart (now (memory .entry))) ⌝ }
 {
     let n = memory.len();
     let exported = file_calls::save_data(cart, memory, &mut scratch[..n]);
     let len = exported.value as usize;
     let kept = state_calls::chip_state(cart);
     let bytes = kept.bytes;
-    resume(image, memory, &scratch[..len], &bytes)
+    resume(image, part, memory, &scratch[..len], &bytes)
 }

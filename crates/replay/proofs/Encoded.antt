@@ -34,9 +34,9 @@ file-bytes : (n : ℕ) (f : Option (List ℕ)) (s : State) → fileAnswer (expor
 file-bytes n none s = refl
 file-bytes n (some f) s = refl
 
-ending-is : (image : List ℕ) (s : State) → Recoverable image s → ending s ≡ fileBytes (length (s .memory)) (fileLeft s) ++ (0 ∷ bytesLeft s)
+ending-is : (image : List ℕ) (part : ℕ) (s : State) → Recoverable image part s → ending s ≡ fileBytes (length (s .memory)) (fileLeft s) ++ (0 ∷ bytesLeft s)
 unfolding ending chipBytes
-ending-is image s r =
+ending-is image part s r =
     let n : ℕ = length (s .memory) in
     let a = record-allowed s (r .sound) in
     let b = memory-fits s (r .sound) in
@@ -46,44 +46,44 @@ ending-is image s r =
     λ i. f i ++ g i
 
 -- how many bytes a recoverable state's memory has
-memory-is : (image : List ℕ) (s : State) → Recoverable image s → length (s .memory) ≡ memorySize (detectSaveType image)
-memory-is image s r = r .sound .memoryOk ∙ ap memorySize (r .kindIs)
+memory-is : (image : List ℕ) (part : ℕ) (s : State) → Recoverable image part s → length (s .memory) ≡ memorySize (detectSaveType image)
+memory-is image part s r = r .sound .memoryOk ∙ ap memorySize (r .kindIs)
 
 -- what is left to show
-abbrev shownFrom : List ℕ → List ℕ → List Turn → State → List ℕ
-shownFrom image memory list s = encoded (memorySize (detectSaveType image)) list (run image memory (uncut list) s)
+abbrev shownFrom : List ℕ → ℕ → List ℕ → List Turn → State → List ℕ
+shownFrom image part memory list s = encoded (memorySize (detectSaveType image)) list (run image part memory (uncut list) s)
 
 -- a call in front of a list
-call-more : (image memory : List ℕ) (c : Call) (d : List ℕ) (k : ℕ) (list : List Turn) (s : State) (rest : Answered)
+call-more : (image : List ℕ) (part : ℕ) (memory : List ℕ) (c : Call) (d : List ℕ) (k : ℕ) (list : List Turn) (s : State) (rest : Answered)
     → let o = step c d s in
-    rest .bytes ++ ending (rest .next) ≡ shownFrom image memory list (o .next)
-    → (shownBytes c (record { refusal = o .refusal; given = o .given; destination = o .destination }) ++ rest .bytes) ++ ending (rest .next) ≡ shownFrom image memory (turn c d k ∷ list) s
+    rest .bytes ++ ending (rest .next) ≡ shownFrom image part memory list (o .next)
+    → (shownBytes c (record { refusal = o .refusal; given = o .given; destination = o .destination }) ++ rest .bytes) ++ ending (rest .next) ≡ shownFrom image part memory (turn c d k ∷ list) s
 unfolding encoded callsBytes run cuts
-call-more image memory c d k list s rest e =
+call-more image part memory c d k list s rest e =
     let o = step c d s in
     let b : List ℕ = shownBytes c (record { refusal = o .refusal; given = o .given; destination = o .destination }) in
-    let r = run image memory (uncut list) (o .next) in
+    let r = run image part memory (uncut list) (o .next) in
     append-assoc b (rest .bytes) (ending (rest .next)) ∙ ap (λ (l : List ℕ). b ++ l) e
     ∙ sym (append-assoc b (callsBytes (map (λ t. t .call) list) (r .calls)) (fileBytes (memorySize (detectSaveType image)) (r .file) ++ (0 ∷ r .bytes)))
 
 -- an item in front of a list that is known to be shown
-abbrev Shows : List ℕ → List ℕ → List Place → Type 0
-Shows image memory list = (t : State) → Recoverable image t → let r = playAll notCut list t in r .bytes ++ ending (r .next) ≡ shownFrom image memory (turns list) t
+abbrev Shows : List ℕ → ℕ → List ℕ → List Place → Type 0
+Shows image part memory list = (t : State) → Recoverable image part t → let r = playAll notCut list t in r .bytes ++ ending (r .next) ≡ shownFrom image part memory (turns list) t
 
-module _ (image memory : List ℕ) (list : List Place) (k : ℕ) (s : State) (r : Recoverable image s) (h : Shows image memory list) where
+module _ (image : List ℕ) (part : ℕ) (memory : List ℕ) (list : List Place) (k : ℕ) (s : State) (r : Recoverable image part s) (h : Shows image part memory list) where
   call-shown : (c : Call) (d : List ℕ) → isByteWrite c && usesEeprom (detectSaveType image) ≡ false
       → let o = step c d s in
       let rest = playAll notCut list (o .next) in
       (shownBytes c (record { refusal = o .refusal; given = o .given; destination = o .destination }) ++ rest .bytes) ++ ending (rest .next)
-      ≡ shownFrom image memory (turn c d k ∷ turns list) s
+      ≡ shownFrom image part memory (turn c d k ∷ turns list) s
   call-shown c d w =
       let o = step c d s in
-      call-more image memory c d k (turns list) s (playAll notCut list (o .next)) (h (o .next) (recoverable-step image c d s (no-write (detectSaveType image) c w) r))
+      call-more image part memory c d k (turns list) s (playAll notCut list (o .next)) (h (o .next) (recoverable-step image part c d s (no-write (detectSaveType image) c w) r))
 
   item-shown : (i : Item) (l : List ℕ) → isWrite i && usesEeprom (detectSaveType image) ≡ false
       → let a = play notCut i l s in
       let rest = playAll notCut list (a .next) in
-      (a .bytes ++ rest .bytes) ++ ending (rest .next) ≡ shownFrom image memory (turnOr i l k (turns list)) s
+      (a .bytes ++ rest .bytes) ++ ending (rest .next) ≡ shownFrom image part memory (turnOr i l k (turns list)) s
   unfolding play
   item-shown (SaveRead a) l w = call-shown (saveRead a) [] refl
   item-shown (SaveWrite a v) l w = call-shown (saveWrite a v) [] w
@@ -97,18 +97,18 @@ module _ (image memory : List ℕ) (list : List Place) (k : ℕ) (s : State) (r 
   item-shown Cut l w = h s r
   item-shown Bad l w = h s r
 
-ending-shown : (image memory : List ℕ) (s : State) → Recoverable image s → ending s ≡ shownFrom image memory [] s
+ending-shown : (image : List ℕ) (part : ℕ) (memory : List ℕ) (s : State) → Recoverable image part s → ending s ≡ shownFrom image part memory [] s
 unfolding encoded callsBytes run
-ending-shown image memory s r = ending-is image s r ∙ ap (λ (n : ℕ). fileBytes n (fileLeft s) ++ (0 ∷ bytesLeft s)) (memory-is image s r)
+ending-shown image part memory s r = ending-is image part s r ∙ ap (λ (n : ℕ). fileBytes n (fileLeft s) ++ (0 ∷ bytesLeft s)) (memory-is image part s r)
 
 -- the list whole
-answers-shown : (image memory : List ℕ) (list : List Place) → byteWrites list && usesEeprom (detectSaveType image) ≡ false → Shows image memory list
+answers-shown : (image : List ℕ) (part : ℕ) (memory : List ℕ) (list : List Place) → byteWrites list && usesEeprom (detectSaveType image) ≡ false → Shows image part memory list
 unfolding playAll turns
-answers-shown image memory [] w s r = ending-shown image memory s r
-answers-shown image memory (p ∷ list) w s r =
+answers-shown image part memory [] w s r = ending-shown image part memory s r
+answers-shown image part memory (p ∷ list) w s r =
     let e : Bool = usesEeprom (detectSaveType image) in
     let b = both-false (isWrite (p .item)) (byteWrites list) e (writes-more p list e w) in
-    item-shown image memory list (cutsInFront list) s r (answers-shown image memory list (b .1)) (p .item) (p .bytes) (b .0)
+    item-shown image part memory list (cutsInFront list) s r (answers-shown image part memory list (b .1)) (p .item) (p .bytes) (b .0)
 
 -- a byte write among the calls is one among the items
 anyWrite : List Call → Bool
@@ -143,38 +143,38 @@ no-writes : (image : List ℕ) (list : List Place) → byteWrites list && usesEe
     → (a v : ℕ) → List·Memᴰ (saveWrite a v) (map (λ t. t .call) (turns list)) → usesEeprom (detectSaveType image) ≡ false
 no-writes image list w a v m = let b : byteWrites list ≡ true = sym (writes-alike list) ∙ mem-any m in rw b at w
 
-module _ (image bytes memory scratch out : List ℕ) (h : replay.replay image bytes memory scratch out .0 ≡ 0) where
+module _ (image : List ℕ) (part : ℕ) (bytes memory scratch out : List ℕ) (h : replay.replay image part bytes memory scratch out .0 ≡ 0) where
   abbrev number : ℕ
-  number = asked (replayQuestions image bytes memory (length scratch) (length out))
+  number = asked (replayQuestions image part bytes memory (length scratch) (length out))
 
   abbrev list : List Turn
   list = turns (items 0 bytes)
 
   abbrev s : State
-  s = fromBytes image memory .next
+  s = fromBytes image part memory .next
 
   accepts : number ≡ 0
   unfolding replay.replay
   accepts = cases (eqb number 0) (λ t. eqb-true number 0 t) (λ t. rw t at h)
 
   w : byteWrites (items 0 bytes) && usesEeprom (detectSaveType image) ≡ false
-  w = no-byte-write image bytes memory scratch out number refl accepts
+  w = no-byte-write image part bytes memory scratch out number refl accepts
 
-  without-cuts : replay.replay image bytes memory scratch out .3 ≡ into (encoded (length memory) list (run image memory (uncut list) s)) out
+  without-cuts : replay.replay image part bytes memory scratch out .3 ≡ into (encoded (length memory) list (run image part memory (uncut list) s)) out
   unfolding replay.replay uncutRun
   without-cuts =
-      let f = next-fresh image bytes memory scratch out number refl accepts in
-      let r : Recoverable image s = subst (Recoverable image) (sym f) (fresh-stands image memory (opens image bytes memory scratch out number refl accepts memory refl)) in
+      let f = next-fresh image part bytes memory scratch out number refl accepts in
+      let r : Recoverable image part s = subst (Recoverable image part) (sym f) (fresh-stands image part memory (opens image part bytes memory scratch out number refl accepts memory refl)) in
       rw accepts
       (ap (λ (l : List ℕ). into l out)
-      (answers-shown image memory (items 0 bytes) w s r
-      ∙ ap (λ (n : ℕ). encoded n list (run image memory (uncut list) s)) (sym (memory-length image bytes memory scratch out number refl accepts))))
+      (answers-shown image part memory (items 0 bytes) w s r
+      ∙ ap (λ (n : ℕ). encoded n list (run image part memory (uncut list) s)) (sym (memory-length image part bytes memory scratch out number refl accepts))))
 
-  with-cuts : replay.replay image bytes memory scratch out .3 ≡ into (encoded (length memory) list (run image memory list s)) out
+  with-cuts : replay.replay image part bytes memory scratch out .3 ≡ into (encoded (length memory) list (run image part memory list s)) out
   with-cuts =
       without-cuts
       ∙ ap (λ (r : Compared). into (encoded (length memory) list r) out)
-      (sym (cut-runs image memory list (opens-here image bytes memory scratch out number refl accepts) (no-writes image (items 0 bytes) w)))
+      (sym (cut-runs image part memory list (opens-here image part bytes memory scratch out number refl accepts) (no-writes image (items 0 bytes) w)))
 
 pub replay-runs : ReplayRuns
 replay-runs = record { withoutCuts = without-cuts; withCuts = with-cuts }

@@ -7,10 +7,12 @@ use native.Mathlib.Omega.{arith}
 use lib.ListN.{length, take, drop, length-append, length-drop}
 use lib.Seq.{drop-length}
 use Rattle.lists.specs.Lists.{into}
+use Rattle.lists.specs.Questions.{asked}
 use Rattle.lists.proofs.Parts.{into-more, length-into}
 use Rattle.kind.specs.Kind.{usesEeprom, detectSaveType}
+use Rattle.part.specs.Part.{partOf, numberFits}
 use Rattle.cart.specs.declared.Cartridge.{Cartridge}
-use Rattle.cart.specs.Record.{State, fresh}
+use Rattle.cart.specs.Record.{State, openQuestions, fresh}
 use Rattle.cart.specs.Replies.{state}
 use Rattle.cart.proofs.Recoverable.{Recoverable}
 use Rattle.cart.proofs.Resume.{quiet}
@@ -18,7 +20,7 @@ use Rattle.call_list.specs.declared.Item.{Item}
 use Rattle.call_list.specs.Items.{Place, itemIn, itemLength, itemRoom, endingRoom, items, isWrite, byteWrites, room}
 use Rattle.call_list.proofs.Places.{next-item, item-fits}
 use Rattle.replay.specs.Replay.{Answered, answered, play, playAll, ending, notCut, cutAt, shownBy, uncutRun, left}
-use Rattle.replay.proofs.Same.{plays-same, ends-same}
+use Rattle.replay.proofs.Same.{part-stands, fresh-stands, plays-same, ends-same}
 
 -- the items from byte i on
 abbrev pub itemsFrom : ℕ → List ℕ → List Place
@@ -29,7 +31,7 @@ abbrev behind : List ℕ → Answered → Answered
 behind front a = answered (front ++ a .bytes) (a .next)
 
 -- front: the answers of the items before byte i; uncut: the state of the machine that is not cut
-pub record Ran (image list m₀ scratch₀ out₀ m scratch out : List ℕ) (cart : Cartridge) (at i : ℕ) : Type 0 where
+pub record Ran (image : List ℕ) (part : ℕ) (list m₀ scratch₀ out₀ m scratch out : List ℕ) (cart : Cartridge) (at i : ℕ) : Type 0 where
   pub front : List ℕ
   pub uncut : State
   pub placeOk : i ≤ length list
@@ -39,18 +41,19 @@ pub record Ran (image list m₀ scratch₀ out₀ m scratch out : List ℕ) (car
   pub memoryOk : length m ≡ length m₀
   pub scratchOk : length scratch ≡ length scratch₀
   pub writesOk : byteWrites (itemsFrom i list) && usesEeprom (detectSaveType image) ≡ false
-  pub stands : Recoverable image (state cart m)
+  pub partOk : numberFits part (detectSaveType image) ≡ true
+  pub stands : Recoverable image part (state cart m)
   pub same : quiet (state cart m) ≡ quiet uncut
-  pub wholeIs : playAll notCut (items 0 list) (fresh image) ≡ behind front (playAll notCut (itemsFrom i list) uncut)
+  pub wholeIs : playAll notCut (items 0 list) (fresh image (partOf part)) ≡ behind front (playAll notCut (itemsFrom i list) uncut)
 
-pub ran-start : (image list m scratch out : List ℕ) (cart : Cartridge) → state cart m ≡ fresh image → Recoverable image (fresh image)
+pub ran-start : (image : List ℕ) (part : ℕ) (list m scratch out : List ℕ) (cart : Cartridge) → state cart m ≡ fresh image (partOf part) → asked (openQuestions image part m) ≡ 0
     → byteWrites (items 0 list) && usesEeprom (detectSaveType image) ≡ false → room (items 0 list) + endingRoom (length m) ≤ length out
-    → Ran image list m scratch out m scratch out cart 0 0
+    → Ran image part list m scratch out m scratch out cart 0 0
 unfolding into
-ran-start image list m scratch out cart e r w h =
+ran-start image part list m scratch out cart e q w h =
     record {
       front = [];
-      uncut = fresh image;
+      uncut = fresh image (partOf part);
       placeOk = omega arith;
       atIs = refl;
       roomOk = omega (arith, h);
@@ -58,7 +61,8 @@ ran-start image list m scratch out cart e r w h =
       memoryOk = refl;
       scratchOk = refl;
       writesOk = w;
-      stands = rw e r;
+      partOk = part-stands image part m q;
+      stands = rw e (fresh-stands image part m q);
       same = ap quiet e;
       wholeIs = refl;
     }
@@ -90,7 +94,7 @@ played-more front p list t =
     let a = playAll notCut list (q .next) in
     ap (λ (l : List ℕ). answered l (a .next)) (sym (append-assoc front (q .bytes) (a .bytes)))
 
-module _ {image list m₀ scratch₀ out₀ m scratch out : List ℕ} {cart : Cartridge} {at i : ℕ} (r : Ran image list m₀ scratch₀ out₀ m scratch out cart at i) where
+module _ {image : List ℕ} {part : ℕ} {list m₀ scratch₀ out₀ m scratch out : List ℕ} {cart : Cartridge} {at i : ℕ} (r : Ran image part list m₀ scratch₀ out₀ m scratch out cart at i) where
   pub out-length : length out ≡ length out₀
   out-length = ap length (r .outIs) ∙ length-into (r .front) out₀ (omega (arith, r .atIs, r .roomOk))
 
@@ -109,9 +113,9 @@ module _ {image list m₀ scratch₀ out₀ m scratch out : List ℕ} {cart : Ca
 
   -- an item: o is what it answers, stored from `at` on
   pub goes-on : i < length list → (item : Item) → item ≡ itemIn (drop i list) → (n k : ℕ) → n ≡ itemRoom item → k ≡ itemLength item → {m' scratch' o out' : List ℕ} {cart' : Cartridge}
-      → _≡_ {A = State × List ℕ} (state cart' m', o) (left (play (cutAt image) item (drop i list) (state cart m)))
+      → _≡_ {A = State × List ℕ} (state cart' m', o) (left (play (cutAt image part) item (drop i list) (state cart m)))
       → length o ≡ n → length m' ≡ length m → length scratch' ≡ length scratch → out' ≡ take at out ++ (o ++ drop n (drop at out))
-      → Ran image list m₀ scratch₀ out₀ m' scratch' out' cart' (at + n) (i + k)
+      → Ran image part list m₀ scratch₀ out₀ m' scratch' out' cart' (at + n) (i + k)
   goes-on h item y' n k z a {m'} {scratch'} {o} {out'} {cart'} e l lm ls d =
       let s : State = state cart m in
       let t : State = r .uncut in
@@ -119,7 +123,7 @@ module _ {image list m₀ scratch₀ out₀ m scratch out : List ℕ} {cart : Ca
       let here : Place = record { item = item; bytes = drop i list } in
       let x : itemsFrom i list ≡ here ∷ more = here-and-more h item y' k a in
       let w = both-false (isWrite item) (byteWrites more) (usesEeprom (detectSaveType image)) (writes-more here more (usesEeprom (detectSaveType image)) (ap (λ (ps : List Place). byteWrites ps && usesEeprom (detectSaveType image)) (sym x) ∙ r .writesOk)) in
-      let y = plays-same image s t (r .same) (r .stands) item (drop i list) (w .0) in
+      let y = plays-same image part s t (r .same) (r .stands) (r .partOk) item (drop i list) (w .0) in
       let q : Answered = play notCut item (drop i list) t in
       let b : o ≡ q .bytes = (λ j. e j .1) ∙ y .bytesSame in
       let g : room (itemsFrom i list) ≡ itemRoom item + room more = ap room x ∙ room-more here more in
@@ -138,21 +142,22 @@ module _ {image list m₀ scratch₀ out₀ m scratch out : List ℕ} {cart : Ca
         memoryOk = lm ∙ r .memoryOk;
         scratchOk = ls ∙ r .scratchOk;
         writesOk = w .1;
-        stands = subst (Recoverable image) (λ j. sym e j .0) (y .stillStands);
+        partOk = r .partOk;
+        stands = subst (Recoverable image part) (λ j. sym e j .0) (y .stillStands);
         same = (λ j. quiet (e j .0)) ∙ y .stillSame;
         wholeIs = r .wholeIs ∙ ap (λ (ps : List Place). behind (r .front) (playAll notCut ps t)) x ∙ played-more (r .front) here more t;
       }
 
   -- what comes after the last item
   pub ends : length list ≤ i → (n : ℕ) {o out' : List ℕ} → o ≡ ending (state cart m) → length o ≡ n → out' ≡ take at out ++ (o ++ drop n (drop at out))
-      → _≡_ {A = List ℕ × List ℕ} (m, out') (shownBy (uncutRun (items 0 list) (fresh image)) out₀)
+      → _≡_ {A = List ℕ × List ℕ} (m, out') (shownBy (uncutRun (items 0 list) (fresh image (partOf part))) out₀)
   unfolding uncutRun playAll items
   ends h n {o} {out'} e l d =
       let y : i ≡ length list = omega (arith, h, r .placeOk) in
       let z : drop i list ≡ [] = ap (λ (k : ℕ). drop k list) y ∙ drop-length list in
-      let w : playAll notCut (items 0 list) (fresh image) ≡ answered (r .front) (r .uncut) =
+      let w : playAll notCut (items 0 list) (fresh image (partOf part)) ≡ answered (r .front) (r .uncut) =
       r .wholeIs ∙ (λ j. behind (r .front) (playAll notCut (items 0 (z j)) (r .uncut))) ∙ (λ j. answered (append-nil (r .front) j) (r .uncut)) in
-      let t : o ≡ ending (r .uncut) = e ∙ ends-same image (state cart m) (r .uncut) (r .same) (r .stands) in
+      let t : o ≡ ending (r .uncut) = e ∙ ends-same image part (state cart m) (r .uncut) (r .same) (r .stands) in
       let g : out' ≡ into (r .front ++ ending (r .uncut)) out₀ =
       d ∙ put-piece (r .front) o out₀ out at n (r .atIs) (omega (arith, r .roomOk)) (r .outIs) l ∙ ap (λ (bs : List ℕ). into (r .front ++ bs) out₀) t in
       (λ j. (r .same j .memory, g j)) ∙ (λ j. shownBy (answered (sym w j .bytes ++ ending (sym w j .next)) (sym w j .next)) out₀)

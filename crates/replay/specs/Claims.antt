@@ -82,15 +82,17 @@ unfoldable pub encoded : ℕ → List Turn → Compared → List ℕ
 encoded n list r = callsBytes (map (λ t. t .call) list) (r .calls) ++ (fileBytes n (r .file) ++ (0 ∷ r .bytes))
 
 -- the output with what a run of the turns from the opened image shows, encoded, of the list
-abbrev pub shownOf : List ℕ → List ℕ → List Turn → List Turn → List ℕ → List ℕ
-shownOf image memory list turned out =
-    into (encoded (length memory) list (run image memory turned (fromBytes image memory .next))) out
+abbrev pub shownOf : List ℕ → ℕ → List ℕ → List Turn → List Turn → List ℕ → List ℕ
+shownOf image part memory list turned out =
+    into (encoded (length memory) list (run image part memory turned (fromBytes image part memory .next))) out
 
 -- what an accepted replay writes is what the list shows without its cuts, and what it shows with them
 pub record ReplayRuns : Type 0 where
-  pub withoutCuts : (image bytes memory scratch out : List ℕ) → replay image bytes memory scratch out .0 ≡ 0
+  pub withoutCuts : (image : List ℕ) (part : ℕ) (bytes memory scratch out : List ℕ)
+      → replay image part bytes memory scratch out .0 ≡ 0
       → let list = turns (items 0 bytes) in
-      replay image bytes memory scratch out .3 ≡ shownOf image memory list (uncut list) out
-  pub withCuts : (image bytes memory scratch out : List ℕ) → replay image bytes memory scratch out .0 ≡ 0
+      replay image part bytes memory scratch out .3 ≡ shownOf image part memory list (uncut list) out
+  pub withCuts : (image : List ℕ) (part : ℕ) (bytes memory scratch out : List ℕ)
+      → replay image part bytes memory scratch out .0 ≡ 0
       → let list = turns (items 0 bytes) in
-      replay image bytes memory scratch out .3 ≡ shownOf image memory list list out
+      replay image part bytes memory scratch out .3 ≡ shownOf image part memory list list out

@@ -92,8 +92,8 @@ abbrev pub notCut : State → State
 notCut s = s
 
 -- and one that is cut; the opening is passed the memory as it is
-abbrev pub cutAt : List ℕ → State → State
-cutAt image s = cut image (s .memory) s
+abbrev pub cutAt : List ℕ → ℕ → State → State
+cutAt image part s = cut image part (s .memory) s
 
 -- the memory that a run leaves, and the output with its answers at the front
 abbrev pub shownBy : Answered → List ℕ → List ℕ × List ℕ
@@ -104,15 +104,16 @@ uncutRun list s =
     let r = playAll notCut list s in
     answered (r .bytes ++ ending (r .next)) (r .next)
 
--- 1 and 3 as at opening, and then what is asked of the list
-abbrev pub replayQuestions : List ℕ → List ℕ → List ℕ → ℕ → ℕ → List Question
-replayQuestions image bytes memory scratch out =
-    openQuestions image memory
+-- 1, 3 and 15 as at opening, and then what is asked of the list
+abbrev pub replayQuestions : List ℕ → ℕ → List ℕ → List ℕ → ℕ → ℕ → List Question
+replayQuestions image part bytes memory scratch out =
+    openQuestions image part memory
     ++ listQuestions (items 0 bytes) (usesEeprom (detectSaveType image)) (length memory) scratch out
 
 -- the refusal or 0, the memory, the scratch, which is left all 0, and the output; a refused replay leaves all as it was
-unfoldable pub replay : List ℕ → List ℕ → List ℕ → List ℕ → List ℕ → ℕ × List ℕ × List ℕ × List ℕ
-replay image bytes memory scratch out =
-    let n = asked (replayQuestions image bytes memory (length scratch) (length out)) in
-    let r = uncutRun (items 0 bytes) (fromBytes image memory .next) in
+unfoldable pub replay : List ℕ → ℕ → List ℕ → List ℕ → List ℕ → List ℕ
+    → ℕ × List ℕ × List ℕ × List ℕ
+replay image part bytes memory scratch out =
+    let n = asked (replayQuestions image part bytes memory (length scratch) (length out)) in
+    let r = uncutRun (items 0 bytes) (fromBytes image part memory .next) in
     cond (eqb n 0) (0, r .next .memory, replicate (length scratch) 0, into (r .bytes) out) (n, memory, scratch, out)

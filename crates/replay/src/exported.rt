@@ -5,9 +5,10 @@ ghost use Rattle.lists.specs.Questions.{asked};
 ghost use Rattle.replay.specs.Replay.{replayQuestions, replay};
 
 // The number of the first question whose answer is no, or 0.
-fn ask(image: &[u8], list: &[u8], memory: &[u8], scratch: usize, out: usize) -> u8
+fn ask(image: &[u8], part: u32, list: &[u8], memory: &[u8], scratch: usize, out: usize) -> u8
     ensures { λ r. ⌜ r
-        ≡ asked (replayQuestions (now (image .entry)) (now (list .entry)) (now (memory .entry)) scratch out) ⌝ }
+        ≡ asked (replayQuestions (now (image .entry)) part (now (list .entry))
+        (now (memory .entry)) scratch out) ⌝ }
 {
     if !image::image_length(image.len()) {
         return 1;
@@ -16,6 +17,9 @@ fn ask(image: &[u8], list: &[u8], memory: &[u8], scratch: usize, out: usize) -> 
     if memory.len() != kind::memory_size(kind) {
         return 3;
     }
+    if !part::number_fits(part, kind) {
+        return 15;
+    }
     call_list::ask_list(list, kind::uses_eeprom(kind), memory.len(), scratch, out)
 }
 
@@ -23,22 +27,23 @@ fn ask(image: &[u8], list: &[u8], memory: &[u8], scratch: usize, out: usize) -> 
 #[no_mangle]
 pub extern "C" fn gbasave_replay(
     image: &[u8],
+    part: u32,
     list: &[u8],
     memory: &mut [u8],
     scratch: &mut [u8],
     out: &mut [u8],
 ) -> u32
     ensures { λ r. ⌜ (r, now (memory .exit), now (scratch .exit), now (out .exit))
-        ≡ replay (now (image .entry)) (now (list .entry))
+        ≡ replay (now (image .entry)) part (now (list .entry))
         (now (memory .entry)) (now (scratch .entry)) (now (out .entry)) ⌝ }
 {
-    let refusal = ask(image, list, memory, scratch.len(), out.len());
+    let refusal = ask(image, part, list, memory, scratch.len(), out.len());
     if refusal != 0 {
         return refusal as u32;
     }
-    let opened = state_calls::from_bytes(image, memory);
+    let opened = state_calls::from_number(image, part, memory);
     let cart = opened.cart;
-    run(image, list, cart, memory, scratch, out);
+    run(image, part, list, cart, memory, scratch, out);
     lists::fill(scratch, 0);
     0
 }

@@ -37,6 +37,7 @@ pub fn play(
     item: Item,
     list: &[u8],
     image: &[u8],
+    part: u32,
     cart: Cartridge,
     memory: &mut [u8],
     scratch: &mut [u8],
@@ -48,7 +49,7 @@ pub fn play(
     requires { ⌜ length (now memory) ≡ memorySize (cart .kind) ⌝ }
     requires { ⌜ length (now memory) ≤ length (now scratch) ⌝ }
     ensures { λ r. ⌜ (state r (now (memory .exit)), now (out .exit))
-        ≡ left (play·spec (cutAt (now (image .entry))) item (now (list .entry))
+        ≡ left (play·spec (cutAt (now (image .entry)) part) item (now (list .entry))
         (state cart (now (memory .entry)))) ⌝ }
 {
     match item {
@@ -79,7 +80,7 @@ pub fn play(
             put_file(cart, memory, out);
             cart
         }
-        Item::Cut => cut_call::cut(image, cart, memory, scratch),
+        Item::Cut => cut_call::cut(image, part, cart, memory, scratch),
         Item::Bad => cart,
     }
 }

@@ -9,6 +9,7 @@ ghost use Prim.Native.Nat.{_+_, _≤_};
 ghost use lib.ListN.{length};
 ghost use Rattle.lists.specs.Questions.{asked};
 ghost use Rattle.kind.specs.Kind.{usesEeprom, detectSaveType};
+ghost use Rattle.part.specs.Part.{partOf};
 ghost use Rattle.cart.specs.Record.{openQuestions, fresh as fresh·spec};
 ghost use Rattle.cart.specs.Replies.{state};
 ghost use Rattle.call_list.specs.Items.{endingRoom, items, byteWrites, room};
@@ -26,19 +27,21 @@ fn end_with(cart: Cartridge, memory: &[u8], out: &mut [u8])
 
 pub fn run(
     image: &[u8],
+    part: u32,
     list: &[u8],
     fresh: Cartridge,
     memory: &mut [u8],
     scratch: &mut [u8],
     out: &mut [u8],
 )
-    requires { ⌜ asked (openQuestions (now image) (now memory)) ≡ 0 ⌝ }
-    requires { ⌜ state fresh (now memory) ≡ fresh·spec (now image) ⌝ }
+    requires { ⌜ asked (openQuestions (now image) part (now memory)) ≡ 0 ⌝ }
+    requires { ⌜ state fresh (now memory) ≡ fresh·spec (now image) (partOf part) ⌝ }
     requires { ⌜ (byteWrites (items 0 (now list)) && usesEeprom (detectSaveType (now image))) ≡ false ⌝ }
     requires { ⌜ length (now memory) ≤ length (now scratch) ⌝ }
     requires { ⌜ room (items 0 (now list)) + endingRoom (length (now memory)) ≤ length (now out) ⌝ }
     ensures { λ _. ⌜ (now (memory .exit), now (out .exit))
-        ≡ shownBy (uncutRun (items 0 (now (list .entry))) (fresh·spec (now (image .entry)))) (now (out .entry)) ⌝ }
+        ≡ shownBy (uncutRun (items 0 (now (list .entry))) (fresh·spec (now (image .entry)) (partOf part)))
+        (now (out .entry)) ⌝ }
 {
     let mut cart = fresh;
     let mut at = 0;
@@ -50,6 +53,7 @@ pub fn run(
             item,
             &list[i..],
             image,
+            part,
             cart,
             memory,
             scratch,

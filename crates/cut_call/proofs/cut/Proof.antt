@@ -43,7 +43,7 @@ returns c =
     let d = c .before .before .before .before .before .before .before .before .before .before .before in
     let s = d .before .before .before .before .before .before in
     let a = s .args in
-    let f = fromBytes (a .image .now) (a .memory .now) .next in
+    let f = fromBytes (a .image .now) (a .part) (a .memory .now) .next in
     let k = c .before .before .before .before .before .before .before .chip-state .ensures (a .memory .now) in
     c .before .before .resume .ensures
     ∙ ap₂ (λ (b : List ℕ) (t : State). restore b t .next) ((λ i. k i .0 .bytes) ∙ bytes-are (state (a .cart) (a .memory .now)) (s .pre .0))

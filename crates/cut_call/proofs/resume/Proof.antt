@@ -11,7 +11,7 @@ returns : tie.Need-returns
 returns c =
     let s = c .before .before .before .before .before .before .before .before .before in
     let a = s .before .before .before .before .before .before .args in
-    let o = s .from-bytes .ensures in
+    let o = s .from-number .ensures in
     let r = c .before .restore-chip-state .ensures _ in
     (λ i. record { cart = r i .0 .cart; memory = r i .1 })
     ∙ ap (λ (t : State). restore (a .bytes .now) t .next) (c .before .before .before .before .load-where-there-is-one .ensures ∙ (λ i. loadedFrom (a .file .now) (record { cart = o i .0 .cart; memory = o i .1 })))

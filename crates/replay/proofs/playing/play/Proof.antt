@@ -51,49 +51,49 @@ unfolding play
 returns c = let a = c .before .before .before .before .before .before .before .before .before .before .before .before .before .before .args in
     let s = state (a .cart) (a .memory .now) in
     shows-value (step (saveRead (c .before .before .before .before .before .before .before .item .given .0 .0)) [] s) (c .before .before .before .before .save-read .ensures) (c .before .before .show-value .ensures)
-    ∙ ap (λ (i : Item). left (play (cutAt (a .image .now)) i (a .list .now) s)) (sym (c .before .before .before .before .before .before .before .item .given .1))
+    ∙ ap (λ (i : Item). left (play (cutAt (a .image .now) (a .part)) i (a .list .now) s)) (sym (c .before .before .before .before .before .before .before .item .given .1))
 
 returns-2 : tie.Need-returns-2
 unfolding play
 returns-2 c = let a = c .before .before .before .before .before .before .before .before .before .before .before .before .before .before .before .before .args in
     let s = state (a .cart) (a .memory .now) in
     shows-status (c .before .before .before .before .before .before .save-write .ensures) (c .before .before .show-status .ensures)
-    ∙ ap (λ (i : Item). left (play (cutAt (a .image .now)) i (a .list .now) s)) (sym (c .before .before .before .before .before .before .before .before .before .item2 .given .1))
+    ∙ ap (λ (i : Item). left (play (cutAt (a .image .now) (a .part)) i (a .list .now) s)) (sym (c .before .before .before .before .before .before .before .before .before .item2 .given .1))
 
 returns-3 : tie.Need-returns-3
 unfolding play
 returns-3 c = let a = c .before .before .before .before .before .before .before .before .before .before .before .before .before .args in
     let s = state (a .cart) (a .memory .now) in
     shows-value (step eepromRead [] s) (c .before .before .before .before .eeprom-read .ensures) (c .before .before .show-value2 .ensures)
-    ∙ ap (λ (i : Item). left (play (cutAt (a .image .now)) i (a .list .now) s)) (sym (c .before .before .before .before .before .before .enum-told .given .1))
+    ∙ ap (λ (i : Item). left (play (cutAt (a .image .now) (a .part)) i (a .list .now) s)) (sym (c .before .before .before .before .before .before .enum-told .given .1))
 
 returns-4 : tie.Need-returns-4
 unfolding play
 returns-4 c = let a = c .before .before .before .before .before .before .before .before .before .before .before .before .before .before .before .before .args in
     let s = state (a .cart) (a .memory .now) in
     shows-status (c .before .before .before .before .before .before .eeprom-write .ensures) (c .before .before .show-status2 .ensures)
-    ∙ ap (λ (i : Item). left (play (cutAt (a .image .now)) i (a .list .now) s)) (sym (c .before .before .before .before .before .before .before .before .before .item3 .given .1))
+    ∙ ap (λ (i : Item). left (play (cutAt (a .image .now) (a .part)) i (a .list .now) s)) (sym (c .before .before .before .before .before .before .before .before .before .item3 .given .1))
 
 returns-5 : tie.Need-returns-5
 unfolding play
 returns-5 c = let a = c .before .before .before .before .before .before .before .before .before .before .before .before .before .args in
     let s = state (a .cart) (a .memory .now) in
     shows-status (c .before .before .before .before .eeprom-begin-dma .ensures (a .memory .now)) (c .before .before .show-status3 .ensures)
-    ∙ ap (λ (i : Item). left (play (cutAt (a .image .now)) i (a .list .now) s)) (sym (c .before .before .before .before .before .before .item4 .given .1))
+    ∙ ap (λ (i : Item). left (play (cutAt (a .image .now) (a .part)) i (a .list .now) s)) (sym (c .before .before .before .before .before .before .item4 .given .1))
 
 returns-6 : tie.Need-returns-6
 unfolding play
 returns-6 c = let a = c .before .before .before .before .before .before .before .before .before .before .before .before .args in
     let s = state (a .cart) (a .memory .now) in
     shows-status (c .before .before .before .before .take-save-dirty .ensures (a .memory .now)) (c .before .before .show-status4 .ensures)
-    ∙ ap (λ (i : Item). left (play (cutAt (a .image .now)) i (a .list .now) s)) (sym (c .before .before .before .before .before .enum-told2 .given .1))
+    ∙ ap (λ (i : Item). left (play (cutAt (a .image .now) (a .part)) i (a .list .now) s)) (sym (c .before .before .before .before .before .enum-told2 .given .1))
 
 returns-7 : tie.Need-returns-7
 unfolding play
 returns-7 c = let a = c .before .before .before .before .before .before .before .before .before .before .before .before .args in
     let s = state (a .cart) (a .memory .now) in
     shows-state (step chipState [] s) (c .before .before .before .chip-state .ensures (a .memory .now)) (c .before .before .put-state .ensures)
-    ∙ ap (λ (i : Item). left (play (cutAt (a .image .now)) i (a .list .now) s)) (sym (c .before .before .before .before .before .enum-told3 .given .1))
+    ∙ ap (λ (i : Item). left (play (cutAt (a .image .now) (a .part)) i (a .list .now) s)) (sym (c .before .before .before .before .before .enum-told3 .given .1))
 
 returns-8 : tie.Need-returns-8
 unfolding play
@@ -101,7 +101,7 @@ returns-8 c = let a = c .before .before .before .before .before .before .before 
     let s = state (a .cart) (a .memory .now) in
     shows-status (c .before .before .before .before .before .before .load-save .ensures) (c .before .before .show-status5 .ensures)
     ∙ ap (λ (f : List ℕ). left (statusAnswer (step (loadSave f) [] s))) (loaded-part (c .before .before .before .before .before .before .before .before .before .before .item5 .given .0 .0) (a .list .now))
-    ∙ ap (λ (i : Item). left (play (cutAt (a .image .now)) i (a .list .now) s)) (sym (c .before .before .before .before .before .before .before .before .before .before .item5 .given .1))
+    ∙ ap (λ (i : Item). left (play (cutAt (a .image .now) (a .part)) i (a .list .now) s)) (sym (c .before .before .before .before .before .before .before .before .before .before .item5 .given .1))
 
 returns-9 : tie.Need-returns-9
 unfolding play
@@ -109,21 +109,21 @@ returns-9 c = let a = c .before .before .before .before .before .before .before 
     let s = state (a .cart) (a .memory .now) in
     (λ i. (sym (export-next (replicate (length (a .out .now) - 5) 0) s) i, c .before .before .put-file .ensures .0 i))
     ∙ ap (λ (n : ℕ). left (fileAnswer (step saveData (replicate n 0) s))) (file-room (a .item) _ (length (a .out .now)) (c .before .before .before .before .before .enum-told4 .given .1) (c .before .before .before .before .before .before .before .before .before .before .before .before .pre .1 .0))
-    ∙ ap (λ (i : Item). left (play (cutAt (a .image .now)) i (a .list .now) s)) (sym (c .before .before .before .before .before .enum-told4 .given .1))
+    ∙ ap (λ (i : Item). left (play (cutAt (a .image .now) (a .part)) i (a .list .now) s)) (sym (c .before .before .before .before .before .enum-told4 .given .1))
 
 returns-10 : tie.Need-returns-10
 unfolding play
 returns-10 c = let a = c .before .before .before .before .before .before .before .before .before .before .before .before .before .before .args in
     let s = state (a .cart) (a .memory .now) in
     (λ i. (c .before .before .before .before .cut .ensures i, nothing (a .out .now) (c .before .before .before .before .before .before .before .before .before .before .before .before .before .before .pre .1 .0 ∙ ap itemRoom (c .before .before .before .before .before .before .before .enum-told5 .given .1)) i))
-    ∙ ap (λ (i : Item). left (play (cutAt (a .image .now)) i (a .list .now) s)) (sym (c .before .before .before .before .before .before .before .enum-told5 .given .1))
+    ∙ ap (λ (i : Item). left (play (cutAt (a .image .now) (a .part)) i (a .list .now) s)) (sym (c .before .before .before .before .before .before .before .enum-told5 .given .1))
 
 returns-11 : tie.Need-returns-11
 unfolding play
 returns-11 c = let a = c .before .before .before .before .before .before .before .args in
     let s = state (a .cart) (a .memory .now) in
     (λ i. (s, nothing (a .out .now) (c .before .before .before .before .before .before .before .pre .1 .0 ∙ ap itemRoom (c .enum-told6 .given .1)) i))
-    ∙ ap (λ (i : Item). left (play (cutAt (a .image .now)) i (a .list .now) s)) (sym (c .enum-told6 .given .1))
+    ∙ ap (λ (i : Item). left (play (cutAt (a .image .now) (a .part)) i (a .list .now) s)) (sym (c .enum-told6 .given .1))
 
 pub play-spec : {M : Type 1} → statement M
 play-spec =

@@ -10,7 +10,6 @@ use Rattle.call_list.specs.Items.{itemIn}
 use Rattle.call_list.proofs.Places.{takes-some}
 use Rattle.replay.specs.Replay.{left, play, cutAt}
 use Rattle.replay.proofs.Pieces.{piece-length}
-use Rattle.replay.proofs.Same.{fresh-stands}
 use Rattle.replay.proofs.Runs.{has-room}
 use Prim.Native.Nat.{_-_}
 use native.Mathlib.Omega.{arith}
@@ -20,14 +19,14 @@ use Rattle.replay.proofs.running.run.Statement.{statement}
 use Rattle.replay.proofs.running.run.Tie as tie
 
 abbrev Inv-loop : tie.InvT-loop
-Inv-loop image list memory₀ scratch₀ out₀ cart₀ at₀ i₀ memory scratch out cart at i = Ran image list memory₀ scratch₀ out₀ memory scratch out cart at i
+Inv-loop image part list memory₀ scratch₀ out₀ cart₀ at₀ i₀ memory scratch out cart at i = Ran image part list memory₀ scratch₀ out₀ memory scratch out cart at i
 
 abbrev μ-loop : tie.MeasureT-loop
-μ-loop image list memory₀ scratch₀ out₀ cart₀ at₀ i₀ memory scratch out cart at i = length list - i
+μ-loop image part list memory₀ scratch₀ out₀ cart₀ at₀ i₀ memory scratch out cart at i = length list - i
 
 loop-holds : tie.Need-loop-holds Inv-loop μ-loop
 loop-holds c = let a = c .before .before .before .before .before .args in
-    ran-start (a .image .now) (a .list .now) (a .memory .now) (a .scratch .now) (a .out .now) (a .fresh) (c .before .before .before .before .before .pre .1 .0) (fresh-stands (a .image .now) (a .memory .now) (c .before .before .before .before .before .pre .0)) (c .before .before .before .before .before .pre .1 .1 .0) (c .before .before .before .before .before .pre .1 .1 .1 .1)
+    ran-start (a .image .now) (a .part) (a .list .now) (a .memory .now) (a .scratch .now) (a .out .now) (a .fresh) (c .before .before .before .before .before .pre .1 .0) (c .before .before .before .before .before .pre .0) (c .before .before .before .before .before .pre .1 .1 .0) (c .before .before .before .before .before .pre .1 .1 .1 .1)
 
 sub-item-in : tie.Need-sub-item-in Inv-loop μ-loop
 sub-item-in c = c .before .loop .inv .placeOk
@@ -89,12 +88,12 @@ loop-again c = let b = c .before .before .before .before .before .before .before
     let a = c .before .before .before .before .before .before .before .before .before .before .before .before .before .before .before .before .before .before .before .before .before .before .args in
     let l = a .list .now in
     let n = c .before .before .before .before .before .before .before .before .before .before .before .before .item-room .result in
-    let o = c .before .before .before .before .before .before .before .play .last .1 .1 .1 .1 .1 .1 .0 in
+    let o = c .before .before .before .before .before .before .before .play .last .1 .1 .1 .1 .1 .1 .1 .0 in
     let h = c .before .before .before .before .before .before .before .before .before .before .before .before .before .item-in .ensures .0 ∙ ap itemIn (rest (b .i) l) in
     let k = has-room (b .inv) (omega (arith, c .before .before .before .before .before .before .before .before .before .before .before .before .before .before .before .loop-test)) (c .before .before .before .before .before .before .before .before .before .before .before .before .before .item-in .result) h in
     let e : b .at + n - b .at ≡ n = omega arith in
     goes-on (b .inv) (omega (arith, c .before .before .before .before .before .before .before .before .before .before .before .before .before .before .before .loop-test)) (c .before .before .before .before .before .before .before .before .before .before .before .before .before .item-in .result) h n (c .item-length .result) (c .before .before .before .before .before .before .before .before .before .before .before .before .item-room .ensures) (c .item-length .ensures)
-    (c .before .before .before .before .before .before .before .play .ensures ∙ ap (λ (w : List ℕ). left (play (cutAt (a .image .now)) (c .before .before .before .before .before .before .before .before .before .before .before .before .before .item-in .result) w (state (b .cart) (b .memory)))) (rest (b .i) l))
+    (c .before .before .before .before .before .before .before .play .ensures ∙ ap (λ (w : List ℕ). left (play (cutAt (a .image .now) (a .part)) (c .before .before .before .before .before .before .before .before .before .before .before .before .before .item-in .result) w (state (b .cart) (b .memory)))) (rest (b .i) l))
     (c .before .before .out .given .0 ∙ piece-length (b .at) (b .at + n) n (b .out) refl (omega (arith, c .before .before .before .before .before .before .before .before .before .before .before .before .item-room .ensures, k, out-length (b .inv))))
     (c .before .before .before .before .before .before .memory .given) (c .before .before .before .before .scratch .given) (λ j. take (b .at) (b .out) ++ (o ++ drop (e j) (drop (b .at) (b .out))))
 
