@@ -1,13 +1,13 @@
 // What is asked of an image alone, or of a kind's and a part's number. Values go to out-parameters.
 
-mod pieces;
 mod parts;
+mod pieces;
 mod sizes;
 
+pub use parts::id_word;
 pub use pieces::crc_feed;
 pub use pieces::crc_finish;
 pub use pieces::crc_start;
-pub use parts::id_word;
 pub use sizes::memory_size;
 pub use sizes::save_fit;
 pub use sizes::save_size;

@@ -7,15 +7,16 @@ use Prim.Native.Nat.{ℕ, _-_, _^_, _≤_, _<_}
 use native.Mathlib.Nat.{pow-succ'}
 use native.Mathlib.Omega.{arith}
 use lib.Dec.{eqb}
-use lib.ListN.{length, drop, length-drop}
+use lib.ListN.{length, drop, length-take, length-drop}
 use lib.Pow.{areBytes}
 use borrow.Author.Tests.{eq-eqb, ne-eqb}
 use Rattle.lists.specs.Lists.{lowValue}
 use Rattle.lists.specs.Questions.{asked}
 use Rattle.lists.proofs.Bools.{split}
 use Rattle.lists.proofs.Parts.{front-of}
-use Rattle.lists.proofs.Digits.{bytes-drop, byte-lt}
+use Rattle.lists.proofs.Digits.{bytes-drop, bytes-take, byte-lt}
 use Rattle.kind.specs.Kind.{memorySize, usesEeprom, detectSaveType}
+use Rattle.part.specs.Part.{partOf}
 use Rattle.file_sizes.specs.SaveFit.{keptPart}
 use Rattle.cart.specs.declared.Cartridge.{Cartridge}
 use Rattle.cart.specs.ChipState.{chipOf}
@@ -29,7 +30,7 @@ use Rattle.cart.proofs.Sound.{Sound, record-allowed, memory-fits, sound-fresh, 
 use Rattle.cart.proofs.Recoverable.{Recoverable, NoByteWrite, recoverable-step, recoverable-fresh}
 use Rattle.cart.proofs.Resume.{Long, file-long, export-accepted, state-accepted, file-left, bytes-left, load-allowed, load-next, acc-lt, resumed-is, open-fresh, quiet}
 use Rattle.cart.proofs.CutRuns.{unflagged, either-quiet, step-same, recoverable-flag, left-same}
-use Rattle.c_record.specs.RecordBytes.{recordBytes, cartOf, isRecord, stateOf}
+use Rattle.c_record.specs.RecordBytes.{recordBytes, chipIn, cartOf, isRecord, stateOf}
 use Rattle.c_record.specs.AtExit.{AtExit, left, called, plain, valueAt, flagAt, stateAt, exportAt}
 use Rattle.c_record.proofs.RecordBytes.{yes, record-and-bytes}
 use Rattle.cart_abi.specs.Host.{ExportedCall, saveRead, saveWrite, eepromBeginDma, eepromWrite, eepromRead, loadSave, saveData, chipState, takeSaveDirty, importSave}
@@ -82,13 +83,13 @@ found-quiet (takeSaveDirty p) o = refl
 found-quiet (importSave f p) o = refl
 
 -- an import is a load, or it is refused
-recoverable-import : (image f : List ℕ) (s : State) → Recoverable image part s → Recoverable image part (machine.importSave f s .next)
+recoverable-import : (image : List ℕ) (part : ℕ) (f : List ℕ) (s : State) → Recoverable image part s → Recoverable image part (machine.importSave f s .next)
 unfolding machine.importSave
-recoverable-import image f s r =
-    let part : List ℕ = keptPart (s .cart .kind) f in
+recoverable-import image part f s r =
+    let kept : List ℕ = keptPart (s .cart .kind) f in
     let k = r .sound in
     split (λ (o : Outcome). Recoverable image part (o .next)) (eqb (asked (importQuestions f s)) 0)
-    (λ e. subst (Recoverable image part) (load-next part s (record-allowed s k) (memory-fits s k)) (recoverable-step image (machine.loadSave part) [] s (λ a v p. cc) r))
+    (λ e. subst (Recoverable image part) (load-next kept s (record-allowed s k) (memory-fits s k)) (recoverable-step image part (machine.loadSave kept) [] s (λ a v p. cc) r))
     (λ e. r)
 
 import-quiet : (f : List ℕ) (s : State) → unflagged (machine.importSave f (quiet s)) ≡ unflagged (machine.importSave f s)
@@ -99,11 +100,11 @@ import-same : (f : List ℕ) (s t : State) → quiet s ≡ quiet t → unflagged
 import-same f s t e = sym (import-quiet f s) ∙ ap (λ (z : State). unflagged (machine.importSave f z)) e ∙ import-quiet f t
 
 -- the machine's call is one of the nine, or import
-data Way (image : List ℕ) (part : ℕ) : (State → Outcome) → Type 0 where
+data Way (image : List ℕ) : (State → Outcome) → Type 0 where
   nine : (c : Call) (d : List ℕ) → NoByteWrite (detectSaveType image) c → Way image (step c d)
   import : (f : List ℕ) → Way image (machine.importSave f)
 
-way : (image : List ℕ) (part : ℕ) (c : ExportedCall) → ((a v : ℕ) → saveWrite a v ≡ c → usesEeprom (detectSaveType image) ≡ false) → Way image (outcomeOf c)
+way : (image : List ℕ) (c : ExportedCall) → ((a v : ℕ) → saveWrite a v ≡ c → usesEeprom (detectSaveType image) ≡ false) → Way image (outcomeOf c)
 way image (saveRead a p) n = nine (machine.saveRead a) [] (λ a v e. cc)
 way image (saveWrite a v) n = nine (machine.saveWrite a v) [] (λ b w e. n a v refl)
 way image (eepromBeginDma words) n = nine (machine.eepromBeginDma words) [] (λ a v e. cc)
@@ -115,13 +116,13 @@ way image (chipState p) n = nine machine.chipState [] (λ a v e. cc)
 way image (takeSaveDirty p) n = nine machine.takeSaveDirty [] (λ a v e. cc)
 way image (importSave f p) n = import f
 
-way-same : {image : List ℕ} {part : ℕ} {call : State → Outcome} → Way image call → (s t : State) → quiet s ≡ quiet t → unflagged (call s) ≡ unflagged (call t)
+way-same : {image : List ℕ} {call : State → Outcome} → Way image call → (s t : State) → quiet s ≡ quiet t → unflagged (call s) ≡ unflagged (call t)
 way-same (nine c d n) s t e = step-same c d s t e
 way-same (import f) s t e = import-same f s t e
 
-way-stands : {image : List ℕ} {part : ℕ} {call : State → Outcome} → Way image call → (s : State) → Recoverable image part s → Recoverable image part (call s .next)
-way-stands {image} {part} (nine c d n) s r = recoverable-step image c d s n r
-way-stands {image} {part} (import f) s r = recoverable-import image f s r
+way-stands : {image : List ℕ} (part : ℕ) {call : State → Outcome} → Way image call → (s : State) → Recoverable image part s → Recoverable image part (call s .next)
+way-stands {image} part (nine c d n) s r = recoverable-step image part c d s n r
+way-stands {image} part (import f) s r = recoverable-import image part f s r
 
 -- where a host goes on after a cut
 low-lt : (l : List ℕ) → areBytes l ≡ true → lowValue l < 256 ^ length l
@@ -132,9 +133,10 @@ low-lt (b ∷ l) h = omega (arith, pow-succ' 256 (length l), byte-lt (b ∷ l) 0
 acc-bytes : (r : List ℕ) → areBytes r ≡ true → isRecord r ≡ true → cartOf r .chip .eeprom .acc < 2 ^ 64
 unfolding cartOf chipOf
 acc-bytes r b h =
-    let l : List ℕ = drop 10 (drop 6 r) in
-    let n : length l ≡ 8 = length-drop 10 (drop 6 r) ∙ ap (λ (k : ℕ). k - 10) (length-drop 6 r ∙ ap (λ (k : ℕ). k - 6) (yes r h .sizeOk)) in
-    subst (λ (k : ℕ). lowValue l < 256 ^ k) n (low-lt l (bytes-drop 10 (drop 6 r) (bytes-drop 6 r b)))
+    let l : List ℕ = drop 10 (chipIn r) in
+    let e = yes r h .sizeOk in
+    let n : length l ≡ 8 = simp (length-drop, length-take) (omega arith) in
+    subst (λ (k : ℕ). lowValue l < 256 ^ k) n (low-lt l (bytes-drop 10 (chipIn r) (bytes-take 18 (drop 6 r) (bytes-drop 6 r b))))
 
 record Begun (image : List ℕ) (part : ℕ) (b : Bytes) : Type 0 where
   at : State
@@ -142,11 +144,12 @@ record Begun (image : List ℕ) (part : ℕ) (b : Bytes) : Type 0 where
   isOpen : Open image part at
   accOk : at .cart .chip .eeprom .acc < 2 ^ 64
 
-begun-is : (image : List ℕ) (part : ℕ) (y : Target image part) → Begun image (bytes.begun y)
-begun-is image (anew m h) =
-    let k = sound-fresh image m h in
-    record { at = fresh image; is = ap (λ (o : Outcome). bytesOf (o .next)) (opened image m h); isOpen = open-fresh image k; accOk = acc-lt (fresh image) k }
-begun-is image (inPlace b o) =
+begun-is : (image : List ℕ) (part : ℕ) (y : Target image part) → Begun image part (bytes.begun y)
+begun-is image part (anew m h) =
+    let k = sound-fresh image part m h in
+    let s : State = fresh image (partOf part) in
+    record { at = s; is = ap (λ (o : Outcome). bytesOf (o .next)) (opened image part m h); isOpen = open-fresh image part k; accOk = acc-lt s k }
+begun-is image part (inPlace b o) =
     let y = record-and-bytes .read (b .bytes) (o .bytesOk) (o .valid) in
     record {
       at = stateOf (b .bytes) (b .memory);
@@ -202,12 +205,12 @@ module _ (image : List ℕ) (part : ℕ) (x : Buffers image part) (s : State) (r
 
   -- the flag that the cartridge has in which the host goes on
   abbrev flag : Bool
-  flag = begun-is image (x .target) .at .cart .dirty
+  flag = begun-is image part (x .target) .at .cart .dirty
 
   cut-is : bytes.cut image part x (bytesOf s) ≡ bytesOf (withFlag flag s)
   unfolding bytes.cut
   cut-is =
-      let y = begun-is image (x .target) in
+      let y = begun-is image part (x .target) in
       let t : State = y .at in
       let a = y .isOpen .allowed in
       let m = eq-eqb _ _ (y .isOpen .memoryOk) in
@@ -218,7 +221,7 @@ module _ (image : List ℕ) (part : ℕ) (x : Buffers image part) (s : State) (r
       ∙ ap (λ (z : Bytes). bytes.restored b (bytes.reloaded f z)) (y .is)
       ∙ ap (bytes.restored b) (reloaded-is t a m (y .accOk) f)
       ∙ restored-is b (uncutMachine.reloaded f t) (k .0) (k .1)
-      ∙ ap bytesOf (resumed-is image s t r (y .isOpen))
+      ∙ ap bytesOf (resumed-is image part s t r (y .isOpen))
 
 -- cuts, one after the other: the bytes of a state that differs from s in the flag alone
 record After (image : List ℕ) (part : ℕ) (b : Bytes) (s : State) : Type 0 where
@@ -227,22 +230,22 @@ record After (image : List ℕ) (part : ℕ) (b : Bytes) (s : State) : Type 0 wh
   alike : quiet at ≡ quiet s
   stands : Recoverable image part at
 
-cuts-are : (image : List ℕ) (part : ℕ) (xs : List (Buffers image part)) (s : State) → Recoverable image part s → After image (bytes.cuts image part xs (bytesOf s)) s
+cuts-are : (image : List ℕ) (part : ℕ) (xs : List (Buffers image part)) (s : State) → Recoverable image part s → After image part (bytes.cuts image part xs (bytesOf s)) s
 unfolding bytes.cuts
-cuts-are image [] s r = record { at = s; is = refl; alike = refl; stands = r }
-cuts-are image (x ∷ xs) s r =
-    let i = cuts-are image xs (withFlag (flag image x s r) s) (recoverable-flag image (flag image x s r) s r) in
-    record { at = i .at; is = ap (bytes.cuts image part xs) (cut-is image x s r) ∙ i .is; alike = i .alike; stands = i .stands }
+cuts-are image part [] s r = record { at = s; is = refl; alike = refl; stands = r }
+cuts-are image part (x ∷ xs) s r =
+    let i = cuts-are image part xs (withFlag (flag image part x s r) s) (recoverable-flag image part (flag image part x s r) s r) in
+    record { at = i .at; is = ap (bytes.cuts image part xs) (cut-is image part x s r) ∙ i .is; alike = i .alike; stands = i .stands }
 
 -- the host goes through the list with its cuts from s, the machine without from t
 runs-are : (image : List ℕ) (part : ℕ) (list : List (Turn image part)) (end : Buffers image part) (s t : State) → NoByteWrites image (callsOf list)
     → quiet s ≡ quiet t → Recoverable image part s → Recoverable image part t
     → bytes.run image part list end (bytesOf s) ≡ machineRun (callsOf list) t
 unfolding bytes.run machineRun
-runs-are image [] end s t n q r u =
+runs-are image part [] end s t n q r u =
     let l = left-same s t (r .sound) (u .sound) q in
-    λ i. record { calls = []; file = (file-is image end s r ∙ l .0) i; state = (state-is image end s r ∙ l .1) i }
-runs-are image (x ∷ list) end s t n q r u =
+    λ i. record { calls = []; file = (file-is image part end s r ∙ l .0) i; state = (state-is image part end s r ∙ l .1) i }
+runs-are image part (x ∷ list) end s t n q r u =
     let c : ExportedCall = x .call in
     let o : State → Outcome = outcomeOf c in
     let w = way image c (λ a v p. n a v (List·Memᴰ·head p)) in
@@ -250,10 +253,10 @@ runs-are image (x ∷ list) end s t n q r u =
     let f : foundOf c (o s) ≡ foundOf c (o t) =
     sym (found-quiet c (o s)) ∙ ap (foundOf c) e ∙ found-quiet c (o t)
     in
-    let a = cuts-are image (x .cutsBehind) (o s .next) (way-stands w s r) in
+    let a = cuts-are image part (x .cutsBehind) (o s .next) (way-stands part w s r) in
     let i : bytes.run image part list end (bytes.cuts image part (x .cutsBehind) (bytesOf (o s .next))) ≡ machineRun (callsOf list) (o t .next) =
     ap (bytes.run image part list end) (a .is)
-    ∙ runs-are image list end (a .at) (o t .next) (λ b v p. n b v (List·Memᴰ·tail p)) (a .alike ∙ ap (λ (z : Outcome). z .next) e) (a .stands) (way-stands w t u)
+    ∙ runs-are image part list end (a .at) (o t .next) (λ b v p. n b v (List·Memᴰ·tail p)) (a .alike ∙ ap (λ (z : Outcome). z .next) e) (a .stands) (way-stands part w t u)
     in
     ap (λ (m : Found × Bytes). before (m .0) (bytes.run image part list end (bytes.cuts image part (x .cutsBehind) (m .1)))) (make-is c s (r .sound))
     ∙ (λ j. before (f j) (i j))
@@ -264,8 +267,8 @@ with-cuts : (image : List ℕ) (part : ℕ) (memory : List ℕ) (xs : List (Buff
 with-cuts image part memory xs list end h n =
     let s : State = fromBytes image part memory .next in
     let r : Recoverable image part s = rw (opened image part memory h) (recoverable-fresh image part memory h) in
-    let a = cuts-are image xs s r in
-    ap (bytes.run image part list end) (a .is) ∙ runs-are image list end (a .at) s n (a .alike) (a .stands) r
+    let a = cuts-are image part xs s r in
+    ap (bytes.run image part list end) (a .is) ∙ runs-are image part list end (a .at) s n (a .alike) (a .stands) r
 
 calls-uncut : {image : List ℕ} {part : ℕ} (list : List (Turn image part)) → callsOf (uncut list) ≡ callsOf list
 calls-uncut [] = refl
