@@ -1,3 +1,4 @@
 pub mod RecordBytes
+pub mod PartNumbers
 pub mod FieldBytes
 pub mod Calls

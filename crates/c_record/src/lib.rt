@@ -21,7 +21,28 @@ pub use outward::record_bytes;
 ghost use mathlib.Core.Path.{_≡_};
 ghost use mathlib.Core.Bool.{true};
 ghost use lib.ListN.{length};
+ghost use Rattle.kind.specs.Kind.{kindOf};
+ghost use Rattle.part.specs.Part.{numberFits};
 ghost use Rattle.c_record.specs.RecordBytes.{recordSize, isRecord, Valid};
+
+// Whether a part's number fits a kind's, by comparisons: the table of sizes would be built in every call.
+pub fn part_allowed(part: u8, kind: u8) -> bool
+    ensures { λ b. ⌜ b ≡ numberFits part (kindOf kind) ⌝ }
+{
+    if part == 0 {
+        return true;
+    }
+    if kind == 2 {
+        return part <= 3;
+    }
+    if kind != 3 {
+        return false;
+    }
+    if part <= 3 {
+        return false;
+    }
+    part <= 5
+}
 
 // Question 2, of bytes.
 fn valid(bytes: &[u8]) -> bool
@@ -38,10 +59,7 @@ fn valid(bytes: &[u8]) -> bool
     if !image::image_length(lists::low32(bytes[0], bytes[1], bytes[2], bytes[3]) as usize) {
         return false;
     }
-    if !part::number_fits(
-        bytes[layout::PART] as u32,
-        kind::kind_of(bytes[layout::KIND]),
-    ) {
+    if !part_allowed(bytes[layout::PART], bytes[layout::KIND]) {
         return false;
     }
     cart::field_questions(&bytes[layout::CHIP..layout::PART]) == 0

@@ -20,10 +20,7 @@ fn known_in(bytes: &[u8]) -> bool
     if 5 < bytes[layout::KIND] {
         return false;
     }
-    if !part::number_fits(
-        bytes[layout::PART] as u32,
-        kind::kind_of(bytes[layout::KIND]),
-    ) {
+    if !c_record::part_allowed(bytes[layout::PART], bytes[layout::KIND]) {
         return false;
     }
     image::image_length(lists::low32(bytes[0], bytes[1], bytes[2], bytes[3]) as usize)

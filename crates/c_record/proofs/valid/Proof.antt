@@ -1,10 +1,8 @@
 -- `c_record::valid` meets its contract, question by question. Assumes nothing.
 use mathlib.Core.Path.{ap, _∙_}
 use native.Mathlib.Omega.{arith}
-use lib.ListN.{getD}
 use Rattle.lists.proofs.Bools.{denied, granted}
 use Rattle.image.specs.Image.{imageLength}
-use Rattle.part.specs.Part.{numberFits}
 use Rattle.c_record.proofs.RecordBytes.{low-four, valid-record, no-kind, no-flag, no-length, no-part, by-chip}
 use borrow.Author.Needs.{needs}
 use Rattle.c_record.proofs.valid.Statement.{statement}
@@ -29,28 +27,25 @@ returns-3 c =
     let l = denied _ (c .before .image-length .ensures ∙ ap imageLength (c .before .before .low32 .ensures ∙ low-four r)) (c .if3 .taken) in
     (no-length r (s .pre) (c .before .before .before .before .before .before .before .before .before .if1 .left) (c .before .before .before .before .before .before .before .if2 .left) l, valid-record r (λ i. omega (arith, c .before .before .before .before .before .before .before .before .before .before .before .shared-slice-known .given i)))
 
-cast-number-fits : tie.Need-cast-number-fits
-cast-number-fits c = omega (arith, c .shared-slice-known8 .given 24)
-
 returns-4 : tie.Need-returns-4
 returns-4 c =
-    let t = c .before .before .before .before .before in
+    let t = c .before .before .before .before in
     let g = t .before .before .before .before .before .before .before in
     let s = g .before .before .before .before .before in
     let r = s .args .bytes .now in
     let l = granted _ (t .before .image-length .ensures ∙ ap imageLength (t .before .before .low32 .ensures ∙ low-four r)) (t .if3 .left) in
-    let p = denied _ (c .before .number-fits .ensures ∙ ap (numberFits (getD r 24 0)) (c .before .before .kind-of .ensures)) (c .if4 .taken) in
+    let p = denied _ (c .before .part-allowed .ensures) (c .if4 .taken) in
     (no-part r (s .pre) (g .before .before .if1 .left) (g .if2 .left) l p, valid-record r (λ i. omega (arith, g .before .before .before .before .shared-slice-known .given i)))
 
 returns-5 : tie.Need-returns-5
 returns-5 c =
     let f = c .before .before in
-    let t = f .before .before .before .before .before in
+    let t = f .before .before .before .before in
     let g = t .before .before .before .before .before .before .before in
     let s = g .before .before .before .before .before in
     let r = s .args .bytes .now in
     let l = granted _ (t .before .image-length .ensures ∙ ap imageLength (t .before .before .low32 .ensures ∙ low-four r)) (t .if3 .left) in
-    let p = granted _ (f .before .number-fits .ensures ∙ ap (numberFits (getD r 24 0)) (f .before .before .kind-of .ensures)) (f .if4 .left) in
+    let p = granted _ (f .before .part-allowed .ensures) (f .if4 .left) in
     (by-chip r (s .pre) (g .before .before .if1 .left) (g .if2 .left) l p (c .field-questions .ensures), valid-record r (λ i. omega (arith, g .before .before .before .before .shared-slice-known .given i)))
 
 pub valid-spec : {M : Type 1} → statement M
@@ -70,9 +65,7 @@ valid-spec =
     (λ c κs. search needs)
     returns-3
     (λ c. search needs)
-    cast-number-fits
     (λ c. search needs)
-    (λ c κs. search needs)
     (λ c κs. search needs)
     returns-4
     (λ c. search needs)
