@@ -14,6 +14,8 @@ use Rattle.lists.proofs.Bools.{cases}
 use Rattle.lists.proofs.Parts.{rest, front-of}
 use Rattle.kind.specs.declared.SaveType.{SaveType}
 use Rattle.kind.specs.Kind.{memorySize}
+use Rattle.part.specs.declared.Part.the-variants.{Usual}
+use Rattle.part.specs.Part.{partNumber}
 use Rattle.frames.specs.declared.FirstLine.{FirstLine}
 use Rattle.frames.specs.declared.FirstLine.the-variants.{Fresh, NoKind}
 use Rattle.frames.specs.Frames.{firstLine, lineOf}
@@ -63,23 +65,23 @@ all-shown kind text answers out o o' m from n k e q h f w =
     shows out (λ j. lineOf 0 [] ++ linesText (sym e j) (linesFrom [] text) (d j)) (s .0) (s .1)
 
 -- a replay that is not refused has room for its answers
-holds-answers : (image list memory scratch out : List ℕ) → replay image list memory scratch out .0 ≡ 0 → room (items 0 list) + endingRoom (length memory) ≤ length out
+holds-answers : (image : List ℕ) (part : ℕ) (list memory scratch out : List ℕ) → replay image part list memory scratch out .0 ≡ 0 → room (items 0 list) + endingRoom (length memory) ≤ length out
 unfolding replay
-holds-answers image list memory scratch out h =
-    let n = asked (replayQuestions image list memory (length scratch) (length out)) in
+holds-answers image part list memory scratch out h =
+    let n = asked (replayQuestions image part list memory (length scratch) (length out)) in
     let z : n ≡ 0 = cases (eqb n 0) (λ t. eqb-true n 0 t) (λ t. rw t at h) in
-    out-holds image list memory scratch out n refl z
+    out-holds image part list memory scratch out n refl z
 
 -- a replay, refused and not
 module _ (kind : SaveType) (lines : List (List ℕ)) (memory scratch answers : List ℕ) where
   said : ℕ × List ℕ × List ℕ × List ℕ
-  said = replay (imageOf kind) (prelude kind ++ listOf lines) (take (memorySize kind) memory) (take (memorySize kind) scratch) answers
+  said = replay (imageOf kind) (partNumber Usual) (prelude kind ++ listOf lines) (take (memorySize kind) memory) (take (memorySize kind) scratch) answers
 
   module _ (image list : List ℕ) (n r : ℕ) (m' s' a' : List ℕ) (i : image ≡ imageOf kind) (l : list ≡ prelude kind ++ listOf lines) (k : n ≡ memorySize kind)
-      (e : _≡_ {A = ℕ × List ℕ × List ℕ × List ℕ} (r, m', s', a') (replay image list (take n memory) (take n scratch) answers)) where
+      (e : _≡_ {A = ℕ × List ℕ × List ℕ × List ℕ} (r, m', s', a') (replay image (partNumber Usual) list (take n memory) (take n scratch) answers)) where
     replay-said : _≡_ {A = ℕ × List ℕ × List ℕ × List ℕ} (r, m', s', a') said
     unfolding said
-    replay-said = e ∙ (λ j. replay (i j) (l j) (take (k j) memory) (take (k j) scratch) answers)
+    replay-said = e ∙ (λ j. replay (i j) (partNumber Usual) (l j) (take (k j) memory) (take (k j) scratch) answers)
 
     pub text-refused : (r ≡ 0 → ⊥) → played kind lines memory scratch answers ≡ lineOf (r % 256) []
     unfolding played replayText said
@@ -92,7 +94,7 @@ module _ (kind : SaveType) (lines : List (List ℕ)) (memory scratch answers : L
     pub answers-held : r ≡ 0 → length a' ≡ length answers → memorySize kind ≤ length memory → preludeRoom kind + (linesRoom lines + endingRoom (memorySize kind)) ≤ length a'
     unfolding said
     answers-held h q z =
-        let held = holds-answers (imageOf kind) (prelude kind ++ listOf lines) (take (memorySize kind) memory) (take (memorySize kind) scratch) answers ((λ j. sym replay-said j .0) ∙ h) in
+        let held = holds-answers (imageOf kind) (partNumber Usual) (prelude kind ++ listOf lines) (take (memorySize kind) memory) (take (memorySize kind) scratch) answers ((λ j. sym replay-said j .0) ∙ h) in
         omega (arith, held, list-room kind lines, length-take-le (memorySize kind) memory z, q)
 
 -- a trace by what its first line says

@@ -6,6 +6,8 @@ use lib.Dec.{ltb, eqb}
 use lib.ListN.{length, take, drop}
 use Rattle.kind.specs.declared.SaveType.{SaveType}
 use Rattle.kind.specs.Kind.{memorySize}
+use Rattle.part.specs.declared.Part.the-variants.{Usual}
+use Rattle.part.specs.Part.{partNumber}
 use Rattle.frames.specs.declared.FirstLine.{FirstLine}
 use Rattle.frames.specs.declared.FirstLine.the-variants.{Fresh, NoKind}
 use Rattle.frames.specs.Frames.{firstLine, lineOf}
@@ -24,12 +26,12 @@ acceptedText kind lines answers = lineOf 0 [] ++ linesText (memorySize kind) lin
 unfoldable pub replayText : SaveType → List (List ℕ) → ℕ × List ℕ × List ℕ × List ℕ → List ℕ
 replayText kind lines r = cond (eqb (r .0) 0) (acceptedText kind lines (r .3)) (lineOf (r .0 % 256) [])
 
--- the lines after line 1, with a memory, a scratch and room for the answers
+-- the lines after line 1, with the usual part, a memory, a scratch and room for the answers
 unfoldable pub played : SaveType → List (List ℕ) → List ℕ → List ℕ → List ℕ → List ℕ
 played kind lines memory scratch answers =
     let n = memorySize kind in
     replayText kind lines
-    (replay (imageOf kind) (prelude kind ++ listOf lines) (take n memory) (take n scratch) answers)
+    (replay (imageOf kind) (partNumber Usual) (prelude kind ++ listOf lines) (take n memory) (take n scratch) answers)
 
 -- a trace of more characters is refused with FD
 abbrev pub longestTrace : ℕ

@@ -24,6 +24,9 @@ ghost use Rattle.cuttrace_lib.specs.Cuttrace.{settled as settled·spec};
 // A trace of more characters is refused.
 const LONGEST_TRACE: usize = 500000;
 
+// The number of the usual part.
+const USUAL_PART: u32 = 0;
+
 // Writes the list to the front of the room and returns its length.
 fn put_list(kind: SaveType, text: &[u8], room: &mut [u8]) -> usize
     requires { ⌜ length (now text) ≤ longestTrace ⌝ }
@@ -82,6 +85,7 @@ fn play_lines(
     let n = kind::memory_size(kind);
     let refusal = replay::gbasave_replay(
         &image,
+        USUAL_PART,
         &list[..used],
         &mut memory[..n],
         &mut scratch[..n],

@@ -21,6 +21,7 @@ use frames::Line;
 use kind::SaveType;
 use memory::NO_FILE;
 use memory::Store;
+use part::Part;
 ghost use Prim.Native.Nat.{_≤_};
 ghost use lib.ListN.{length};
 
@@ -58,13 +59,23 @@ fn bit_in(value: u16, cart: Cartridge, memory: &mut [u8], out: &mut [u8]) -> Pla
     requires { ⌜ 256 ≤ length (now out) ⌝ }
 {
     let kind = cart.kind;
+    let part = cart.part;
     let chip = cart.chip;
-    let r = chip_by_reference::eeprom_write_copy(chip, cart.len, kind, cart.dirty, memory, value);
+    let r = chip_by_reference::eeprom_write_copy(
+        chip,
+        cart.len,
+        kind,
+        part,
+        cart.dirty,
+        memory,
+        value,
+    );
     let after = r.chip;
     let reply = r.reply;
     let next = Cartridge {
         len: cart.len,
         kind: kind,
+        part: part,
         dirty: reply.dirty,
         chip: after,
     };
@@ -143,7 +154,10 @@ fn opened(kind: SaveType, len: usize, cart: Cartridge, memory: &mut [u8], out: &
     }
     let n = at_most(kind::memory_size(kind), memory);
     memory::apply(Store::Chip, &NO_FILE, &mut memory[..n]);
-    played(cart::fresh_cart(len, kind), frames::print_line(out, 0, b""))
+    played(
+        cart::fresh_cart(len, kind, Part::Usual),
+        frames::print_line(out, 0, b""),
+    )
 }
 
 // 0B kind (2) image length (8).

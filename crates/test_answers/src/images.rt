@@ -8,6 +8,7 @@ use crate::rooms::at_most;
 use crate::rooms::memory_room;
 use cart::Cartridge;
 use cart::Reply;
+use part::Part;
 ghost use mathlib.Core.Path.{_≡_};
 ghost use Prim.Native.Nat.{_≤_};
 ghost use lib.ListN.{length};
@@ -16,7 +17,7 @@ ghost use lib.ListN.{length};
 fn opened(image: &[u8]) -> Reply {
     let mut memory = memory_room();
     let n = at_most(kind::memory_size(kind::detect_save_type(image)), &memory);
-    state_calls::from_bytes(image, &mut memory[..n])
+    state_calls::from_bytes(image, Part::Usual, &mut memory[..n])
 }
 
 // Kind, header check, CRC, `save_size`, `eeprom_window_start`, and the title's length.

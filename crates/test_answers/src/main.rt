@@ -12,6 +12,7 @@ mod tally;
 use bytes::scan::find;
 use cart::Cartridge;
 use kind::SaveType;
+use part::Part;
 use tally::Tally;
 
 // The state between two lines.
@@ -90,7 +91,7 @@ fn line(text: &[u8], replay: Replay, memory: &mut [u8]) -> Replay {
 
 fn begun() -> Replay {
     Replay {
-        cart: cart::fresh_cart(0, SaveType::None),
+        cart: cart::fresh_cart(0, SaveType::None, Part::Usual),
         tally: tally::no_lines(),
     }
 }
