@@ -4,7 +4,7 @@
  * wrong one ends the program with status 1.
  *
  *     host           runs the examples below, on images that the program makes
- *     host IMAGE     prints what the part finds in an image file
+ *     host IMAGE     prints what is found in an image file
  */
 #include "check.h"
 #include "game.h"
