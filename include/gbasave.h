@@ -119,7 +119,7 @@
  * TO RESUME A STATE, in this process or in another:
  *   1. Compare the kind, the image's length and the CRC with those of the cartridge that is to go on. If one of them
  *      differs, stop: the state belongs to another cartridge. If the cartridge is open, compare the part too. If only
- *      the part differs, stop, or open the cartridge again with the state's part: with another part the game would find
+ *      the part differs, stop, or open the cartridge again with the state's part: with another part the game may find
  *      another chip than before. Check also that the file is complete: the load takes a file of any length.
  *   2. If that cartridge is not open, open it with gbasave_from_bytes and the state's part. If it is open with that
  *      part, keep its record and its memory: opening it again makes no difference except to the flag, and takes the
