@@ -24,7 +24,7 @@ enum {
 static const uint8_t UNWRITTEN = 0xA5;
 static const uint32_t NO_VALUE = 0xA5A5A5A5;
 
-/* The cartridge of the last frame 0B. Before the first it is 24 zeros, which every call refuses. */
+/* The cartridge of the last frame 0B. Before the first it is 25 zeros, which every call refuses. */
 static struct {
     gbasave_record record;
     uint8_t memory[GBASAVE_MEMORY_MAX];
@@ -254,7 +254,7 @@ static void open_cartridge(const uint8_t *s, struct answer *a)
     memset(&cart, UNWRITTEN, sizeof cart);
     uint32_t refusal = gbasave_memory_size(s[0], &cart.size);
     if (refusal == 0)
-        refusal = gbasave_from_bytes(&cart.record, image, length, cart.memory, cart.size);
+        refusal = gbasave_from_bytes(&cart.record, image, length, GBASAVE_PART_USUAL, cart.memory, cart.size);
     put_status(a, refusal);
 }
 
@@ -281,7 +281,7 @@ static uint32_t open_image(gbasave_record *record, uint32_t length)
 {
     uint32_t bytes = NO_VALUE;
     const uint32_t refusal = gbasave_save_size(image, length, &bytes);
-    return refusal != 0 ? refusal : gbasave_from_bytes(record, image, length, file, bytes);
+    return refusal != 0 ? refusal : gbasave_from_bytes(record, image, length, GBASAVE_PART_USUAL, file, bytes);
 }
 
 /* One of several values. If its call is refused, the refusal is in the answer too, which then differs. */

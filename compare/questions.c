@@ -1,33 +1,209 @@
 /*
- * Which question refuses which call: every call on a record, with records and memories around every limit, held against document 01's
- * "Questions at the door" as written here. The original cannot be asked: it has no such records, memories and destinations.
- * A refused call has to leave record, memory, destination and place as they were. --fault asks for a count of 64 in phase 3.
+ * Which question refuses which call: every call on a record, with records and memories around every limit, and every opening and ID word by
+ * part and kind, held against document 01's "Questions at the door" and document 02's ticket 1 as written here. The original cannot be asked:
+ * it has no such records, memories, destinations and parts. A refused call has to leave record, memory, destination and place as they were;
+ * a refused opening makes the record zeros. ID mode has to show each part's word. --fault NAME expects something wrong, which has to be found.
  */
 #include "gbasave.h"
 
 #include <stdio.h>
 #include <string.h>
 
-enum { RECORD = GBASAVE_RECORD_SIZE, LONGEST = GBASAVE_MEMORY_MAX + 1, PLACE = 0x5EED5EED, CALLS = 14 };
+enum { RECORD = GBASAVE_RECORD_SIZE, LONGEST = GBASAVE_MEMORY_MAX + 1, PLACE = 0x5EED5EED, CALLS = 14, KINDS = 6, PARTS = 6 };
 
-static const uint32_t SIZE[6] = {0, 32768, 65536, 131072, 8192, 8192};
+static const uint32_t SIZE[KINDS] = {0, 32768, 65536, 131072, 8192, 8192};
+
+/* "64K SST D4BFh, Macronix 1CC2h, Panasonic 1B32h; 128K Sanyo 1362h, Macronix 09C2h; or the usual one": of part 0, the usual one, size and word
+   go by the kind. */
+static const uint32_t PART_SIZE[PARTS] = {0, 65536, 65536, 65536, 131072, 131072};
+static const uint32_t PART_WORD[PARTS] = {0, 0xD4BF, 0x1CC2, 0x1B32, 0x1362, 0x09C2};
+static const uint32_t USUAL_WORD[KINDS] = {0, 0, 0x1B32, 0x1362, 0, 0};
+
+/* Numbers from 0 to 255, and above these such as a narrower type would take for a part's or a kind's. */
+static const uint32_t ABOVE[] = {256, 257, 258, 259, 260, 261, 65536, 65538, 0x80000000, 0x80000002, 0xFFFFFFFF};
+enum { NUMBERS = 256 + sizeof ABOVE / sizeof *ABOVE };
 
 /* Lent to calls that are to be refused, and held against its copy at the end; and lent to calls that are to be accepted. */
 static uint8_t kept[LONGEST], copy[LONGEST], scratch[LONGEST], file[LONGEST];
+static uint8_t image[GBASAVE_IMAGE_MAX + 1];
 
-static int fault;
+/* What is expected wrongly: a count of 64 in phase 3; records with a part that does not fit; a 128K part on Flash64; 15 asked before 3; two parts'
+   words swapped; the maker at odd addresses. */
+static enum { NOTHING, COUNT, RECORDS, SIZES, ORDER, WORDS, MAKER } fault;
+static const char *const FAULT[] = {"nothing", "count", "records", "sizes", "order", "words", "maker"};
+
 static unsigned long calls, by_number[16];
 
-/* 2: "Is the record's image length in that range and each chip field allowed?", of the table of the chip record. */
+static uint32_t number(unsigned i)
+{
+    return i < 256 ? i : ABOVE[i - 256];
+}
+
+/* 15: "when a named part's size is not the kind's". A number that names no part has no size. */
+static int fits(uint32_t part, uint32_t kind)
+{
+    if (fault == SIZES && part == 4 && kind == GBASAVE_KIND_FLASH64)
+        return 1;
+    return part == 0 || (part < PARTS && PART_SIZE[part] == SIZE[kind]);
+}
+
+static uint32_t word_of(uint32_t part, uint32_t kind)
+{
+    if (fault == WORDS && (part == 1 || part == 2))
+        part = 3 - part;
+    return part == 0 ? USUAL_WORD[kind] : PART_WORD[part];
+}
+
+/* 2: "Is the record's image length in that range and each chip field allowed?", of the table of the chip record; "A record whose named part does
+   not have its kind's size is a no at question 2." */
 static int is_record(const uint8_t *r)
 {
     const uint32_t length = r[0] | (uint32_t)r[1] << 8 | (uint32_t)r[2] << 16 | (uint32_t)r[3] << 24;
     const uint8_t *c = r + GBASAVE_RECORD_CHIP;
     const unsigned w = c[3] != 0 ? c[3] : c[4] == 1 ? 14 : 6;
-    const unsigned limit[7] = {2, w, w, 64 + fault, 1, 1, 1};
+    const unsigned limit[7] = {2, w, w, 64 + (fault == COUNT), 1, 1, 1};
     return length >= 192 && length <= 33554432 && r[4] <= 5 && r[5] <= 1 && c[0] <= 8 && c[0] != 3 && c[1] <= 1 && c[2] <= 1 &&
-           (c[3] == 0 || c[3] == 6 || c[3] == 14) && c[4] <= 1 && c[5] <= 6 && c[6] < limit[c[5]] && (c[7] | c[8] << 8) <= 1023 && c[9] <= 67;
+           (c[3] == 0 || c[3] == 6 || c[3] == 14) && c[4] <= 1 && c[5] <= 6 && c[6] < limit[c[5]] && (c[7] | c[8] << 8) <= 1023 && c[9] <= 67 &&
+           (fault == RECORDS || fits(r[GBASAVE_RECORD_PART], r[4]));
 }
+
+/* ---- Parts: ID words and openings ------------------------------------------------------------------------------------------------- */
+
+static int wrong_part(const char *what, uint32_t part, uint32_t kind, size_t image_length, size_t memory)
+{
+    printf("questions: %s, part %u, kind %u, image %zu, memory %zu\n", what, (unsigned)part, (unsigned)kind, image_length, memory);
+    return 1;
+}
+
+/* Every number as a part and as a kind. */
+static int ask_words(void)
+{
+    for (unsigned p = 0; p < NUMBERS; p++)
+        for (unsigned k = 0; k < NUMBERS; k++) {
+            const uint32_t part = number(p), kind = number(k), no = kind >= KINDS ? 2 : fits(part, kind) ? 0 : 15;
+            uint32_t word = PLACE;
+            calls++;
+            by_number[no]++;
+            if (gbasave_id_word(part, kind, &word) != no)
+                return wrong_part("an ID word, another number", part, kind, 0, 0);
+            if (word != (no ? (uint32_t)PLACE : word_of(part, kind)))
+                return wrong_part("another ID word", part, kind, 0, 0);
+        }
+    return 0;
+}
+
+/* An image of a kind: zeros and the kind's marker. Returns its length, the least one. */
+static size_t make_image(unsigned kind)
+{
+    static const char *const MARKER[KINDS] = {"", "SRAM_V", "FLASH_V", "FLASH1M_V", "EEPROM_V", "EEPROM_V"};
+    memset(image, 0, 16);
+    memcpy(image, MARKER[kind], strlen(MARKER[kind]));
+    return kind == GBASAVE_KIND_EEPROM8K ? 16777217 : 192;
+}
+
+/* What an accepted opening leaves: image length, kind, flag 0, chip record 0 but large 1 for Eeprom8k, part. */
+static void fresh_record(uint8_t *r, size_t image_length, unsigned kind, uint32_t part)
+{
+    memset(r, 0, RECORD);
+    for (unsigned i = 0; i < 4; i++)
+        r[i] = (uint8_t)(image_length >> 8 * i);
+    r[GBASAVE_RECORD_KIND] = (uint8_t)kind;
+    r[GBASAVE_RECORD_CHIP + 4] = kind == GBASAVE_KIND_EEPROM8K;
+    r[GBASAVE_RECORD_PART] = (uint8_t)part;
+}
+
+/* 1, 3, and 15, "asked last at opening". */
+static uint32_t opening_no(unsigned kind, size_t image_length, uint32_t part, size_t memory)
+{
+    if (image_length < 192 || image_length > 33554432)
+        return 1;
+    if (fault == ORDER && !fits(part, kind))
+        return 15;
+    if (memory != SIZE[kind])
+        return 3;
+    return fits(part, kind) ? 0 : 15;
+}
+
+static int ask_opening(unsigned kind, size_t image_length, uint32_t part, size_t memory)
+{
+    const uint32_t no = opening_no(kind, image_length, part, memory);
+    uint8_t *lent = no ? kept : scratch, left[RECORD] = {0};
+    gbasave_record r;
+    memset(r.bytes, 0xEE, RECORD);
+    memset(scratch, 0x5A, memory + 1 < LONGEST ? memory + 1 : LONGEST);
+    calls++;
+    by_number[no]++;
+    if (gbasave_from_bytes(&r, image, image_length, part, lent, memory) != no)
+        return wrong_part("opening, another number", part, kind, image_length, memory);
+    if (no == 0) {
+        fresh_record(left, image_length, kind, part);
+        for (size_t i = 0; i <= memory; i++)
+            if (scratch[i] != (i < memory ? 0xFF : 0x5A))
+                return wrong_part("opening, another memory", part, kind, image_length, memory);
+    }
+    if (memcmp(r.bytes, left, RECORD) != 0)
+        return wrong_part("opening, another record", part, kind, image_length, memory);
+    return 0;
+}
+
+/* Every part number, with images too short, right and too long, and the right memory, one byte less or more, and another kind's. An Eeprom8k image
+   takes long to search: with a wrong memory it is opened with a few parts only. */
+static int ask_openings(unsigned first, unsigned last)
+{
+    for (unsigned kind = first; kind <= last; kind++) {
+        const size_t right = make_image(kind), size = SIZE[kind];
+        const size_t length[] = {right, 191, 33554433}, memory[] = {size, size + 1, size ? size - 1 : 8192, size == 65536 ? 131072 : 65536};
+        for (unsigned p = 0; p < NUMBERS; p++)
+            for (unsigned l = 0; l < 3; l++)
+                for (unsigned m = 0; m < 4; m++) {
+                    if (kind == GBASAVE_KIND_EEPROM8K && l == 0 && m > 0 && p > 6 && p != 255)
+                        continue;
+                    if (ask_opening(kind, length[l], number(p), memory[m]))
+                        return 1;
+                }
+    }
+    return 0;
+}
+
+/* The byte at an address: in ID mode flash reads the maker at even addresses and the device at odd ones. */
+static uint32_t byte_at(unsigned kind, uint32_t part, const uint8_t *chip, uint32_t address)
+{
+    const int flash = kind == GBASAVE_KIND_FLASH64 || kind == GBASAVE_KIND_FLASH128;
+    if (flash && chip[2] == 1)
+        return address % 2 == (fault == MAKER) ? word_of(part, kind) & 0xFF : word_of(part, kind) >> 8;
+    if (flash)
+        return copy[(chip[1] * 65536 + address % 65536) % SIZE[kind]];
+    return SIZE[kind] == 0 ? 0xFF : copy[address % SIZE[kind]];
+}
+
+/* Every kind with every part that fits, in both banks, with ID mode off and on: every address of a bank, and some far ones. */
+static int read_bytes(void)
+{
+    static const uint32_t FAR[] = {0x0E000000, 0x0E000001, 0x0E00FFFE, 0x0E00FFFF, 0x10000, 0x10001, 0x7FFFFFFF, 0xFFFFFFFE, 0xFFFFFFFF};
+    for (unsigned kind = 0; kind < KINDS; kind++)
+        for (uint32_t part = 0; part < PARTS; part++)
+            for (unsigned switches = 0; switches < 4 && fits(part, kind); switches++) {
+                const uint8_t chip[GBASAVE_STATE_SIZE] = {0, switches & 1, switches >> 1};
+                gbasave_record r;
+                fresh_record(r.bytes, 192, kind, part);
+                memcpy(scratch, copy, LONGEST);
+                calls++;
+                by_number[0]++;
+                if (gbasave_restore_chip_state(&r, chip, sizeof chip) != 0)
+                    return wrong_part("a restore is refused", part, kind, 192, SIZE[kind]);
+                for (uint32_t i = 0; i < 65536 + sizeof FAR / sizeof *FAR; i++) {
+                    const uint32_t address = i < 65536 ? i : FAR[i - 65536];
+                    uint32_t value = PLACE;
+                    calls++;
+                    by_number[0]++;
+                    if (gbasave_save_read(&r, scratch, SIZE[kind], address, &value) != 0 || value != byte_at(kind, part, chip, address))
+                        return wrong_part("another byte", part, kind, 192, SIZE[kind]);
+                }
+            }
+    return 0;
+}
+
+/* ---- Calls on a record ------------------------------------------------------------------------------------------------------------ */
 
 /* The number of the first question to which the answer is no, or 0. */
 static uint32_t first_no(unsigned call, const uint8_t *r, size_t memory)
@@ -83,13 +259,15 @@ static int ask(const uint8_t *given, size_t memory)
         gbasave_record r;
         uint32_t place = PLACE;
         memcpy(r.bytes, given, RECORD);
-        const uint32_t number = first_no(call, given, memory);
+        const uint32_t no = first_no(call, given, memory);
         calls++;
-        by_number[number]++;
-        if (made(call, &r, number ? kept : scratch, memory, number ? bytes : scratch, &place) != number)
+        by_number[no]++;
+        if (made(call, &r, no ? kept : scratch, memory, no ? bytes : scratch, &place) != no)
             return wrong("another number", call, given, memory);
-        if (number && (place != PLACE || memcmp(r.bytes, given, RECORD) || memcmp(bytes, untouched, sizeof bytes)))
+        if (no && (place != PLACE || memcmp(r.bytes, given, RECORD) || memcmp(bytes, untouched, sizeof bytes)))
             return wrong("something is changed", call, given, memory);
+        if (r.bytes[GBASAVE_RECORD_PART] != given[GBASAVE_RECORD_PART])
+            return wrong("the part is changed", call, given, memory);
     }
     return 0;
 }
@@ -97,53 +275,76 @@ static int ask(const uint8_t *given, size_t memory)
 /* With the right memory, one byte less or more, and another kind's. */
 static int ask_all(const uint8_t *given)
 {
-    const size_t size = given[4] < 6 ? SIZE[given[4]] : 0;
+    const size_t size = given[4] < KINDS ? SIZE[given[4]] : 0;
     return ask(given, size) || ask(given, size + 1) || ask(given, size ? size - 1 : 8192) || ask(given, size == 65536 ? 131072 : 65536);
+}
+
+/* The record, and those around it. */
+static int ask_near(const uint8_t *r)
+{
+    static const uint8_t NEAR[] = {0, 1, 2, 3, 4, 5, 6, 7, 8, 9, 13, 14, 15, 63, 64, 65, 67, 68, 255};
+    uint8_t other[RECORD];
+    /* every byte with every value */
+    for (unsigned at = 0; at < RECORD; at++)
+        for (unsigned value = 0; value < 256; value++) {
+            memcpy(other, r, RECORD);
+            other[at] = (uint8_t)value;
+            if (ask_all(other))
+                return 1;
+        }
+    /* every two of bytes 4 to 15 and of the part around their limits */
+    for (unsigned a = 4; a < 16; a++)
+        for (unsigned b = a + 1; b < 17; b++)
+            for (size_t i = 0; i < sizeof NEAR * sizeof NEAR; i++) {
+                memcpy(other, r, RECORD);
+                other[a] = NEAR[i / sizeof NEAR];
+                other[b < 16 ? b : GBASAVE_RECORD_PART] = NEAR[i % sizeof NEAR];
+                if (ask(other, other[4] < KINDS ? SIZE[other[4]] : 0))
+                    return 1;
+            }
+    /* image lengths around both limits */
+    memcpy(other, r, RECORD);
+    for (uint32_t length = 190; length <= 33554434; length = length == 194 ? 33554430 : length + 1) {
+        for (unsigned i = 0; i < 4; i++)
+            other[i] = (uint8_t)(length >> 8 * i);
+        if (ask_all(other))
+            return 1;
+    }
+    return 0;
+}
+
+/* Every kind with every part that fits it. */
+static int ask_records(void)
+{
+    /* Records behind byte 3: at rest; a flash command in bank 1 and ID mode; an address at each width; data; a read; large. */
+    static const uint8_t BASE[][14] = {{0}, {0, 1, 4, 1, 1}, {0, 0, 0, 0, 0, 6, 0, 1, 5}, {0, 1, 0, 0, 0, 14, 1, 2, 13}, {0, 0, 0, 0, 0, 0, 1, 3, 63, 100}, {0, 0, 0, 0, 0, 14, 1, 6, 0, 255, 3, 67}, {0, 0, 8, 1, 0, 0, 1}};
+    for (unsigned kind = 0; kind < KINDS; kind++)
+        for (unsigned part = 0; part < PARTS; part++)
+            for (size_t base = 0; base < sizeof BASE / sizeof *BASE && fits(part, kind); base++) {
+                uint8_t r[RECORD] = {0, 16};
+                memcpy(r + 4, BASE[base], sizeof *BASE);
+                r[GBASAVE_RECORD_KIND] = (uint8_t)kind;
+                r[GBASAVE_RECORD_PART] = (uint8_t)part;
+                if (ask_near(r))
+                    return 1;
+            }
+    return 0;
 }
 
 int main(int argc, char **argv)
 {
-    /* Records behind byte 3: at rest; a flash command in bank 1 and ID mode; an address at each width; data; a read; large. */
-    static const uint8_t BASE[][14] = {{0}, {0, 1, 4, 1, 1}, {0, 0, 0, 0, 0, 6, 0, 1, 5}, {0, 1, 0, 0, 0, 14, 1, 2, 13}, {0, 0, 0, 0, 0, 0, 1, 3, 63, 100}, {0, 0, 0, 0, 0, 14, 1, 6, 0, 255, 3, 67}, {0, 0, 8, 1, 0, 0, 1}};
-    static const uint8_t NEAR[] = {0, 1, 2, 3, 4, 5, 6, 7, 8, 9, 13, 14, 15, 63, 64, 65, 67, 68, 255};
-    fault = argc > 1 && strcmp(argv[1], "--fault") == 0;
+    for (unsigned i = 0; argc == 3 && strcmp(argv[1], "--fault") == 0 && i < sizeof FAULT / sizeof *FAULT; i++)
+        if (strcmp(argv[2], FAULT[i]) == 0)
+            fault = i;
+    if (argc > 1 && fault == NOTHING) {
+        fprintf(stderr, "usage: questions [--fault count | records | sizes | order | words | maker]\n");
+        return 2;
+    }
     for (size_t i = 0; i < LONGEST; i++)
         kept[i] = copy[i] = file[i] = (uint8_t)(i * 31 + i / 256);
-    for (unsigned kind = 0; kind < 6; kind++)
-        for (size_t base = 0; base < sizeof BASE / sizeof *BASE; base++) {
-            uint8_t r[RECORD] = {0, 16};
-            memcpy(r + 4, BASE[base], sizeof *BASE);
-            r[4] = (uint8_t)kind;
-            /* every byte with every value */
-            for (unsigned at = 0; at < RECORD; at++)
-                for (unsigned value = 0; value < 256; value++) {
-                    uint8_t one[RECORD];
-                    memcpy(one, r, RECORD);
-                    one[at] = (uint8_t)value;
-                    if (ask_all(one))
-                        return 1;
-                }
-            /* every two of bytes 4 to 15 around their limits */
-            for (unsigned a = 4; a < 16; a++)
-                for (unsigned b = a + 1; b < 16; b++)
-                    for (size_t i = 0; i < sizeof NEAR * sizeof NEAR; i++) {
-                        uint8_t two[RECORD];
-                        memcpy(two, r, RECORD);
-                        two[a] = NEAR[i / sizeof NEAR];
-                        two[b] = NEAR[i % sizeof NEAR];
-                        if (ask(two, two[4] < 6 ? SIZE[two[4]] : 0))
-                            return 1;
-                    }
-            /* image lengths around both limits */
-            for (uint32_t length = 190; length <= 33554434; length = length == 194 ? 33554430 : length + 1) {
-                r[0] = (uint8_t)length;
-                r[1] = (uint8_t)(length >> 8);
-                r[2] = (uint8_t)(length >> 16);
-                r[3] = (uint8_t)(length >> 24);
-                if (ask_all(r))
-                    return 1;
-            }
-        }
+    if (ask_words() || read_bytes() || ask_openings(GBASAVE_KIND_NONE, GBASAVE_KIND_EEPROM512) || ask_records() ||
+        ask_openings(GBASAVE_KIND_EEPROM8K, GBASAVE_KIND_EEPROM8K))
+        return 1;
     if (memcmp(kept, copy, LONGEST) != 0) {
         printf("questions: a refused call changed a memory\n");
         return 1;

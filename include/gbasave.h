@@ -1,23 +1,25 @@
 /*
- * gbasave.h: the backup chip of a Game Boy Advance cartridge (SRAM, flash, serial EEPROM), as a part for console
- * cores. For C11 and C++. The archive libgbasave.a is for x86-64 with the System V calling convention.
+ * gbasave.h: the backup chip of a Game Boy Advance cartridge (SRAM, flash, serial EEPROM), for console cores. For C11
+ * and C++. The archive libgbasave.a is for x86-64 with the System V calling convention.
  *
  * WHAT IT IS. A set of calls that keep no state of their own. The image, the save memory and the record belong to the
- * caller, who passes them to each call. No call uses them after it has returned. The part allocates nothing, opens no
- * file and has no variables of its own. A call takes a few KiB of stack at most. The archive needs three functions
+ * caller, who passes them to each call. No call uses them after it has returned. The archive allocates nothing, opens
+ * no file and has no variables of its own. A call takes a few KiB of stack at most. The archive needs three functions
  * from outside: memcpy, memmove and memset. It may call them with length 0, and then with any pointer, also NULL.
  * Every call ends.
  *
- * THE RECORD is 24 bytes. It holds all data of a cartridge except its image and its memory. It contains no pointer: it
+ * THE RECORD is 25 bytes. It holds all data of a cartridge except its image and its memory. It contains no pointer: it
  * may be copied, stored and moved like any other bytes. gbasave_from_bytes writes it.
  *
  *     bytes 0-3    the image's length, low byte first, 192 to 33,554,432
  *     byte  4      the kind, 0 to 5
  *     byte  5      the changed flag, 0 or 1
  *     bytes 6-23   the chip record: the 18 bytes of gbasave_chip_state
+ *     byte  24     the part, 0 to 5
  *
- * A record is valid if each of its fields has an allowed value. 24 bytes that are not a valid record do no harm: every
- * call that reads a record refuses them with 2. The caller may read the fields, and may set the changed flag to 0 or 1.
+ * A record is valid if each of its fields has an allowed value and its part fits its kind. 25 bytes that are not a
+ * valid record do no harm: every call that reads a record refuses them with 2. The caller may read the fields, and may
+ * set the changed flag to 0 or 1.
  *
  * KINDS.
  *
@@ -29,10 +31,28 @@
  *     4  GBASAVE_KIND_EEPROM512      8,192           its first 512 bytes; the memory once the chip is known to be large
  *     5  GBASAVE_KIND_EEPROM8K       8,192           the same; this kind is large from the start
  *
- * RETURN VALUES. Every call but gbasave_version returns 0 (accepted) or the number of a refusal. It asks questions about
- * its arguments, in the order that its comment gives. It returns the number of the first question to which the answer is
- * no, or 0 if there is no such question. gbasave_refusal_text returns a text for each number. Values are returned
- * through out-parameters (uint32_t *). The questions are:
+ * PARTS. A part is a flash chip of one maker. A game can read the chip's ID word, and some games save only on chips
+ * that they know. So gbasave_from_bytes takes the number of the part that the game is to find:
+ *
+ *     number and name                  chip                 ID word   fits
+ *     0  GBASAVE_PART_USUAL            Panasonic, 64 KiB    1B32h     FLASH64
+ *                                      Sanyo, 128 KiB       1362h     FLASH128
+ *                                      no flash chip        0         NONE, SRAM, EEPROM512, EEPROM8K
+ *     1  GBASAVE_PART_SST_64K          SST, 64 KiB          D4BFh     FLASH64
+ *     2  GBASAVE_PART_MACRONIX_64K     Macronix, 64 KiB     1CC2h     FLASH64
+ *     3  GBASAVE_PART_PANASONIC_64K    Panasonic, 64 KiB    1B32h     FLASH64
+ *     4  GBASAVE_PART_SANYO_128K       Sanyo, 128 KiB       1362h     FLASH128
+ *     5  GBASAVE_PART_MACRONIX_128K    Macronix, 128 KiB    09C2h     FLASH128
+ *
+ * The usual part fits every kind. A named part, 1 to 5, fits the flash kind of its size. A number above 5 names no part
+ * and fits no kind. The high byte of an ID word is the device, the low byte the maker. In ID mode even addresses read
+ * the maker, and odd ones the device. The part has no other effect: every command does the same with every part.
+ * gbasave_from_bytes writes the part to the record; no other call changes it.
+ *
+ * RETURN VALUES. Every call but gbasave_version returns 0 (accepted) or the number of a refusal. It asks questions
+ * about its arguments, in the order that its comment gives. It returns the number of the first question to which the
+ * answer is no, or 0 if there is no such question. gbasave_refusal_text returns a text for each number. Values are
+ * returned through out-parameters (uint32_t *). The questions are:
  *
  *      1   Is the image 192 to 33,554,432 bytes long?
  *      2   Is the record valid?
@@ -48,9 +68,10 @@
  *     12   Is the state's count allowed in its phase?
  *     13   Is the destination long enough for the output?
  *     14   Is the file's length one for this kind? (For kind NONE no length is.)
+ *     15   Does the part have the kind's size? (The usual part fits every kind, a number above 5 none.)
  *
  * A REFUSED CALL CHANGES NOTHING: the record, the memory, the destination, the state and every out-parameter keep
- * their values. The one exception is gbasave_from_bytes: if it is refused it writes 24 zeros to the record.
+ * their values. The one exception is gbasave_from_bytes: if it is refused it writes 25 zeros to the record.
  *
  * WHAT THE CALLER HAS TO ENSURE, in every call. A buffer is a pointer and a length in bytes. (For the state of
  * gbasave_chip_state the length is 18.)
@@ -67,13 +88,14 @@
  * They may all pass the same image.
  *
  * TIME. gbasave_from_bytes, gbasave_detect_save_type, gbasave_save_fit, gbasave_save_size and gbasave_rom_crc read the
- * image, gbasave_crc_feed its part. gbasave_load_save, gbasave_import_save, gbasave_save_data and the erasing of a flash
- * chip go through the memory. The time of every other call does not grow with the size of either.
+ * image, gbasave_crc_feed its piece. gbasave_load_save, gbasave_import_save, gbasave_save_data and the erasing of a
+ * flash chip go through the memory. The time of every other call does not grow with the size of either.
  *
  * TO PLAY.
  *   1. Compare gbasave_version() with GBASAVE_VERSION_NUMBER. If they differ, the archive belongs to another header.
  *   2. Call gbasave_save_size to learn how much memory the image needs.
- *   3. Pass a memory of that size to gbasave_from_bytes.
+ *   3. Pass a memory of that size to gbasave_from_bytes, and the part: GBASAVE_PART_USUAL, unless the game is known to
+ *      look for another flash chip. No call finds the part in the image.
  *   4. Load the player's file, if there is one, with gbasave_import_save. A footer of 16 bytes is not loaded, and no
  *      exported file has one. If later files are to have the footer, keep it and append it to them.
  *   5. Pass on the game's accesses. Bytes at 0E000000h to 0E00FFFFh go to gbasave_save_read and gbasave_save_write. On
@@ -88,17 +110,20 @@
  *   - the file from gbasave_save_data, if there is one (*length is not 0);
  *   - the 18 bytes from gbasave_chip_state;
  *   - what identifies the cartridge: the kind and the image's length (both in the record), and gbasave_rom_crc of the
- *     image. Compute the CRC once, when the image is opened.
- * The file and the 18 bytes do not say to which cartridge they belong. gbasave_load_save and
- * gbasave_restore_chip_state accept those of another cartridge, also of another kind, and overwrite its save. Only the
- * caller can prevent this.
+ *     image. Compute the CRC once, when the image is opened;
+ *   - the part with which the cartridge was opened (the record's byte GBASAVE_RECORD_PART).
+ * The file and the 18 bytes do not say to which cartridge they belong, nor with which part it was opened.
+ * gbasave_load_save and gbasave_restore_chip_state accept those of another cartridge, also of another kind or part, and
+ * overwrite its save. Only the caller can prevent this.
  *
  * TO RESUME A STATE, in this process or in another:
  *   1. Compare the kind, the image's length and the CRC with those of the cartridge that is to go on. If one of them
- *      differs, stop: the state belongs to another cartridge. Check also that the file is complete: the load takes a
- *      file of any length.
- *   2. If that cartridge is not open, open it with gbasave_from_bytes. If it is open, keep its record and its memory:
- *      opening it again makes no difference except to the flag, and takes the time of a search of the image.
+ *      differs, stop: the state belongs to another cartridge. If the cartridge is open, compare the part too. If only
+ *      the part differs, stop, or open the cartridge again with the state's part: with another part the game may find
+ *      another chip than before. Check also that the file is complete: the load takes a file of any length.
+ *   2. If that cartridge is not open, open it with gbasave_from_bytes and the state's part. If it is open with that
+ *      part, keep its record and its memory: opening it again makes no difference except to the flag, and takes the
+ *      time of a search of the image.
  *   3. Pass the 18 bytes to gbasave_restore_chip_state. If they are refused, stop: the cartridge is unchanged.
  *   4. If there is a file, pass it to gbasave_load_save, and set the record's byte GBASAVE_RECORD_FLAG, the changed
  *      flag, to 1.
@@ -107,14 +132,15 @@
  * state's file, and not the one that was written out last. Without the flag, a host that writes the file only when the
  * flag is 1 would not write it, and the save would be lost.
  *
- * WHAT IS PROVED OF STATES. Every later answer, file and state is the same as if no state had been taken and resumed.
- * This holds for every list of these ten calls, refused ones included: gbasave_save_read, gbasave_save_write,
- * gbasave_eeprom_begin_dma, gbasave_eeprom_write, gbasave_eeprom_read, gbasave_load_save, gbasave_save_data,
- * gbasave_import_save, gbasave_chip_state and gbasave_take_save_dirty. It holds wherever between the calls states are
- * taken and resumed, also between two bits of a serial command, and however often. It does not cover the changed flag,
- * lists with a byte write to an EEPROM kind, or the restoring of other states. It is also proved that load and
- * restore on the open cartridge of the same image leave the same memory as opening, load and restore, and the same
- * record except for the flag: opening sets it to 0, load and restore keep it.
+ * WHAT IS PROVED OF STATES. Every later answer, file and state is the same as if no state had been taken and resumed,
+ * where both cartridges are opened with the same part: the one of which the state is taken and the one in which it is
+ * resumed. This holds for every part, and for every list of these ten calls, refused ones included: gbasave_save_read,
+ * gbasave_save_write, gbasave_eeprom_begin_dma, gbasave_eeprom_write, gbasave_eeprom_read, gbasave_load_save,
+ * gbasave_save_data, gbasave_import_save, gbasave_chip_state and gbasave_take_save_dirty. It holds wherever between the
+ * calls states are taken and resumed, also between two bits of a serial command, and however often. It does not cover
+ * the changed flag, lists with a byte write to an EEPROM kind, or the restoring of other states. It is also proved that
+ * load and restore on the open cartridge of the same image and part leave the same memory as opening, load and restore,
+ * and the same record except for the flag: opening sets it to 0, load and restore keep it.
  */
 #ifndef GBASAVE_H
 #define GBASAVE_H
@@ -127,11 +153,11 @@ extern "C" {
 #endif
 
 /* The version of this header and of its archive, as a text and as a number: major * 10000 + minor * 100 + patch. */
-#define GBASAVE_VERSION "0.2.0"
-#define GBASAVE_VERSION_NUMBER 200
+#define GBASAVE_VERSION "0.3.0"
+#define GBASAVE_VERSION_NUMBER 300
 
 /* Sizes in bytes. */
-#define GBASAVE_RECORD_SIZE 24
+#define GBASAVE_RECORD_SIZE 25
 #define GBASAVE_STATE_SIZE 18
 #define GBASAVE_TITLE_SIZE 36 /* the longest title */
 #define GBASAVE_IMAGE_MIN 192
@@ -155,6 +181,15 @@ typedef enum gbasave_kind {
     GBASAVE_KIND_EEPROM8K = 5
 } gbasave_kind;
 
+typedef enum gbasave_part {
+    GBASAVE_PART_USUAL = 0,
+    GBASAVE_PART_SST_64K = 1,
+    GBASAVE_PART_MACRONIX_64K = 2,
+    GBASAVE_PART_PANASONIC_64K = 3,
+    GBASAVE_PART_SANYO_128K = 4,
+    GBASAVE_PART_MACRONIX_128K = 5
+} gbasave_part;
+
 typedef enum gbasave_refusal {
     GBASAVE_ACCEPTED = 0,
     GBASAVE_REFUSED_IMAGE_LENGTH = 1,
@@ -170,7 +205,8 @@ typedef enum gbasave_refusal {
     GBASAVE_REFUSED_STATE_RANGES = 11,
     GBASAVE_REFUSED_STATE_COUNT = 12,
     GBASAVE_REFUSED_DESTINATION_LENGTH = 13,
-    GBASAVE_REFUSED_FILE_LENGTH = 14
+    GBASAVE_REFUSED_FILE_LENGTH = 14,
+    GBASAVE_REFUSED_PART = 15
 } gbasave_refusal;
 
 /* Returns a short text for the return value of a call. */
@@ -192,11 +228,26 @@ static inline const char *gbasave_refusal_text(uint32_t answer)
     case GBASAVE_REFUSED_STATE_COUNT: return "the chip state's count is not allowed in its phase";
     case GBASAVE_REFUSED_DESTINATION_LENGTH: return "the destination is too short";
     case GBASAVE_REFUSED_FILE_LENGTH: return "no file of this kind has this length";
-    default: return "no answer of this part";
+    case GBASAVE_REFUSED_PART: return "the part does not have the kind's size";
+    default: return "no call returns this number";
     }
 }
 
-/* A cartridge record. The struct gives it a type of its own; the calls take a pointer to the 24 bytes. */
+/* Returns the name of a part, to be shown to a person. */
+static inline const char *gbasave_part_text(uint32_t part)
+{
+    switch (part) {
+    case GBASAVE_PART_USUAL: return "the usual part";
+    case GBASAVE_PART_SST_64K: return "SST 64K";
+    case GBASAVE_PART_MACRONIX_64K: return "Macronix 64K";
+    case GBASAVE_PART_PANASONIC_64K: return "Panasonic 64K";
+    case GBASAVE_PART_SANYO_128K: return "Sanyo 128K";
+    case GBASAVE_PART_MACRONIX_128K: return "Macronix 128K";
+    default: return "no part";
+    }
+}
+
+/* A cartridge record. The struct gives it a type of its own; the calls take a pointer to the 25 bytes. */
 typedef struct gbasave_record {
     uint8_t bytes[GBASAVE_RECORD_SIZE];
 } gbasave_record;
@@ -206,6 +257,7 @@ typedef struct gbasave_record {
 #define GBASAVE_RECORD_KIND 4
 #define GBASAVE_RECORD_FLAG 5
 #define GBASAVE_RECORD_CHIP 6
+#define GBASAVE_RECORD_PART 24
 
 /*
  * The comment of each call says what the call does, and then:
@@ -216,7 +268,7 @@ typedef struct gbasave_record {
  * A call writes and changes nothing else.
  */
 
-/* ---- The version --------------------------------------------------------------------------------------------------- */
+/* ---- The version ------------------------------------------------------------------------------------------------- */
 
 /*
  * Returns the version of the archive: GBASAVE_VERSION_NUMBER of the header that belongs to it. It is not the number of
@@ -224,7 +276,7 @@ typedef struct gbasave_record {
  */
 uint32_t gbasave_version(void);
 
-/* ---- The image ----------------------------------------------------------------------------------------------------- */
+/* ---- The image --------------------------------------------------------------------------------------------------- */
 
 /*
  * Finds the kind of an image. The game code at ACh decides first: GBXP, GBXJ and GBXE give SRAM; GB4P, GB4J and GB4E
@@ -275,7 +327,7 @@ uint32_t gbasave_read32(const uint8_t *image, size_t image_length, uint32_t addr
 
 /*
  * Computes the header's complement check: 0 minus the bytes A0h to BCh minus 19h, modulo 256. A correct header has
- * this value at BDh. The part refuses no image because of another value there.
+ * this value at BDh. No call refuses an image because of another value there.
  *   Asks:    1 (lower bound)
  *   Writes:  *value, 0 to 255.
  */
@@ -299,48 +351,56 @@ uint32_t gbasave_title(const uint8_t *image, size_t image_length, uint8_t *desti
 uint32_t gbasave_rom_crc(const uint8_t *image, size_t image_length, uint32_t *value);
 
 /*
- * Compute the CRC-32/IEEE of an image that the host reads in parts, as from a card. The caller's number *crc is passed
+ * Compute the CRC-32/IEEE of an image that the host reads in pieces, as from a card. The caller's number *crc is passed
  * from call to call:
  *
  *     gbasave_crc_start(&crc);
- *     while ((part_length = next_part(part)) != 0) gbasave_crc_feed(&crc, part, part_length);
+ *     while ((piece_length = next_piece(piece)) != 0) gbasave_crc_feed(&crc, piece, piece_length);
  *     gbasave_crc_finish(&crc);
  *
- * gbasave_crc_start begins, gbasave_crc_feed takes the next part, gbasave_crc_finish ends. The parts are fed in the
- * image's order, none twice and none left out. A part may have any length; one of 0 bytes changes nothing. It is
- * proved that, however the image is cut into parts, *crc is at the end what gbasave_rom_crc writes for the whole.
+ * gbasave_crc_start begins, gbasave_crc_feed takes the next piece, gbasave_crc_finish ends. The pieces are fed in the
+ * image's order, none twice and none left out. A piece may have any length; one of 0 bytes changes nothing. It is
+ * proved that, however the image is cut into pieces, *crc is at the end what gbasave_rom_crc writes for the whole.
  *   Asks:    nothing, and each returns 0. No call sees the whole image, so the host itself asks question 1 about the
- *            sum of the parts' lengths. If the answer is no, *crc is still the CRC-32/IEEE of the bytes fed.
- *   Changes: *crc. Before the end it is not yet a CRC. It may be copied: a finished copy is the CRC of the parts so
+ *            sum of the pieces' lengths. If the answer is no, *crc is still the CRC-32/IEEE of the bytes fed.
+ *   Changes: *crc. Before the end it is not yet a CRC. It may be copied: a finished copy is the CRC of the pieces so
  *            far. After the end it is not fed again.
- *   Time:    It grows with the part's length. Per byte it is least if every part is a multiple of 32,768 bytes long.
+ *   Time:    It grows with the piece's length. Per byte it is least if every piece is a multiple of 32,768 bytes long.
  */
 uint32_t gbasave_crc_start(uint32_t *crc);
-uint32_t gbasave_crc_feed(uint32_t *crc, const uint8_t *part, size_t part_length);
+uint32_t gbasave_crc_feed(uint32_t *crc, const uint8_t *piece, size_t piece_length);
 uint32_t gbasave_crc_finish(uint32_t *crc);
 
-/* ---- Opening ------------------------------------------------------------------------------------------------------- */
+/* ---- Opening ----------------------------------------------------------------------------------------------------- */
+
+/*
+ * Gets the ID word of a part on a kind, both by number: the word that a game reads in ID mode. It tells before an
+ * opening whether the part fits the kind.
+ *   Asks:    2, about the kind's number: is it a kind's, 0 to 5? Then 15.
+ *   Writes:  *word: the device in bits 8 to 15, the maker in bits 0 to 7. 0 if the kind has no flash chip.
+ */
+uint32_t gbasave_id_word(uint32_t part, uint32_t kind, uint32_t *word);
 
 /*
  * Opens a cartridge: finds the image's kind as gbasave_detect_save_type does, and erases the memory. The image is not
- * kept; the record holds only its length.
- *   Asks:    1, 3 (for the image's kind)
- *   Changes: record, whatever it held before: image length and kind; flag 0; chip record 0, except that large is 1 for
- *            EEPROM8K. memory: every byte becomes FFh.
- *   Refused: The record becomes 24 zeros, which are not a valid record. The memory keeps its bytes. A cartridge whose
+ * kept; the record holds only its length. The part is a number of the table at PARTS.
+ *   Asks:    1, 3 (for the image's kind), 15 (for the image's kind)
+ *   Changes: record, whatever it held before: image length, kind and part; flag 0; chip record 0, except that large is
+ *            1 for EEPROM8K. memory: every byte becomes FFh.
+ *   Refused: The record becomes 25 zeros, which are not a valid record. The memory keeps its bytes. A cartridge whose
  *            record is passed here is lost if the call is refused. To keep it, pass a second record, and copy it over
  *            the first if the call is accepted.
  */
-uint32_t gbasave_from_bytes(gbasave_record *record, const uint8_t *image, size_t image_length, uint8_t *memory,
-                            size_t memory_length);
+uint32_t gbasave_from_bytes(gbasave_record *record, const uint8_t *image, size_t image_length, uint32_t part,
+                            uint8_t *memory, size_t memory_length);
 
-/* ---- Bytes: SRAM and flash ----------------------------------------------------------------------------------------- */
+/* ---- Bytes: SRAM and flash --------------------------------------------------------------------------------------- */
 
 /*
  * Reads the byte at an address. Any address may be passed, also the one on the bus (0E000000h and up). SRAM uses it
  * modulo 32,768, flash modulo 65,536 in the selected bank (FLASH64 has one bank), EEPROM kinds modulo 8,192. Kind NONE
- * reads FFh. Flash in ID mode reads the maker at even addresses and the device at odd ones: 32h and 1Bh for FLASH64,
- * 62h and 13h for FLASH128.
+ * reads FFh. Flash in ID mode reads the maker at even addresses and the device at odd ones: the low and the high byte
+ * of the part's ID word. With the usual part these are 32h and 1Bh for FLASH64, 62h and 13h for FLASH128.
  *   Asks:    2, 3
  *   Writes:  *value, 0 to 255.
  */
@@ -359,9 +419,10 @@ uint32_t gbasave_save_read(const gbasave_record *record, const uint8_t *memory, 
  *   Asks:    2, 3
  *   Changes: record (flag; flash state, bank and ID mode) and memory, as above.
  */
-uint32_t gbasave_save_write(gbasave_record *record, uint8_t *memory, size_t memory_length, uint32_t address, uint8_t value);
+uint32_t gbasave_save_write(gbasave_record *record, uint8_t *memory, size_t memory_length, uint32_t address,
+                            uint8_t value);
 
-/* ---- Serial bits: EEPROM ------------------------------------------------------------------------------------------- */
+/* ---- Serial bits: EEPROM ----------------------------------------------------------------------------------------- */
 
 /*
  * Tells whether the kind is one of the two EEPROM kinds.
@@ -406,7 +467,7 @@ uint32_t gbasave_eeprom_write(gbasave_record *record, uint8_t *memory, size_t me
  */
 uint32_t gbasave_eeprom_read(gbasave_record *record, const uint8_t *memory, size_t memory_length, uint32_t *bit);
 
-/* ---- Files --------------------------------------------------------------------------------------------------------- */
+/* ---- Files ------------------------------------------------------------------------------------------------------- */
 
 /*
  * Writes the save file: the memory, or only its first 512 bytes if the chip is an EEPROM that is not large.
@@ -415,15 +476,15 @@ uint32_t gbasave_eeprom_read(gbasave_record *record, const uint8_t *memory, size
  *   Writes:  *length, and the file to the destination's first bytes. The bytes after the file keep their values. Kind
  *            NONE has no file: *length is 0.
  */
-uint32_t gbasave_save_data(const gbasave_record *record, const uint8_t *memory, size_t memory_length, uint8_t *destination,
-                           size_t destination_length, uint32_t *length);
+uint32_t gbasave_save_data(const gbasave_record *record, const uint8_t *memory, size_t memory_length,
+                           uint8_t *destination, size_t destination_length, uint32_t *length);
 
 /*
- * Imports a player's file, if its length is one that gbasave_save_fit takes for the kind. The kept part of the file,
- * without a footer, is loaded as gbasave_load_save does it. A footer is the file's last 16 bytes; it is not kept.
+ * Imports a player's file, if its length is one that gbasave_save_fit takes for the kind. What is kept of the
+ * file, without a footer, is loaded as gbasave_load_save does it. A footer is the file's last 16 bytes; it is not kept.
  *   Asks:    2, 3, 14
  *   Writes:  *kept: how many of the file's bytes were loaded.
- *   Changes: memory; record (large). The flag keeps its value.
+ *   Changes: memory; record (large). The flag and the part keep their values.
  */
 uint32_t gbasave_import_save(gbasave_record *record, uint8_t *memory, size_t memory_length, const uint8_t *file,
                              size_t file_length, uint32_t *kept);
@@ -433,7 +494,7 @@ uint32_t gbasave_import_save(gbasave_record *record, uint8_t *memory, size_t mem
  * written to its beginning, as many as there is room for. On EEPROM kinds a file longer than 512 bytes makes the chip
  * large. For kind NONE nothing happens.
  *   Asks:    2, 3
- *   Changes: memory; record (large). The flag keeps its value.
+ *   Changes: memory; record (large). The flag and the part keep their values.
  */
 uint32_t gbasave_load_save(gbasave_record *record, uint8_t *memory, size_t memory_length, const uint8_t *file,
                            size_t file_length);
@@ -447,7 +508,7 @@ uint32_t gbasave_load_save(gbasave_record *record, uint8_t *memory, size_t memor
  */
 uint32_t gbasave_take_save_dirty(gbasave_record *record, uint32_t *flag);
 
-/* ---- States -------------------------------------------------------------------------------------------------------- */
+/* ---- States ------------------------------------------------------------------------------------------------------ */
 
 /*
  * Gets the chip record. Its bytes are:
@@ -469,7 +530,7 @@ uint32_t gbasave_chip_state(const gbasave_record *record, uint8_t state[GBASAVE_
  * Replaces the chip record in the record. The bytes may come from an untrusted source: any state that is accepted is
  * safe to go on with.
  *   Asks:    2, 6, 7, 8, 9, 10, 11, 12
- *   Changes: record: only the chip record. Image length, kind and flag keep their values.
+ *   Changes: record: only the chip record. Image length, kind, flag and part keep their values.
  */
 uint32_t gbasave_restore_chip_state(gbasave_record *record, const uint8_t *state, size_t state_length);
 

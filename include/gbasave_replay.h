@@ -21,21 +21,22 @@
  *     0A                            a cut                               nothing
  *
  * A CUT takes a state and resumes it. Its steps are gbasave_save_data and gbasave_chip_state; then gbasave_from_bytes
- * with the same image, gbasave_load_save with the file, if there is one, and gbasave_restore_chip_state. Only the file
- * and the 18 bytes are kept; everything else that the call before the cut left is lost.
+ * with the same image and the same part, gbasave_load_save with the file, if there is one, and
+ * gbasave_restore_chip_state. Only the file and the 18 bytes are kept; everything else that the call before the cut
+ * left is lost.
  *
  * THE OUTPUT is the answers of the items, one after the other. A status is 0 or the number of a refusal. After a
  * refusal the values are 0. Two more answers follow, as if the list ended with these items: the answer of a 09 whose
  * length is that of the save memory, and the answer of a 07. They are the file and the chip record at the end.
  *
- * WHAT RUNS. A replay does not run the calls of gbasave.h. It runs the functions of the same part that take a record as
- * a value and return it. Each does what the call of gbasave.h does that is named above: both have contracts over the
+ * WHAT RUNS. A replay does not run the calls of gbasave.h. It runs functions of the same repository that take a record
+ * as a value and return it. Each does what the call of gbasave.h does that is named above: both have contracts over the
  * same definitions, and from the chip's step down they are the same code. What only the calls of gbasave.h have is not
- * run: reading a record's 24 bytes, writing them back, and the fast paths.
+ * run: reading a record's 25 bytes, writing them back, and the fast paths.
  *
- * IT IS PROVED that the output is the same as that of the list without its cuts, wherever the cuts are and however
- * many there are. About lists of the calls of gbasave.h themselves, with cuts made of them, the same is a theorem about
- * their contracts: see STATES in gbasave.h.
+ * IT IS PROVED that the output is the same as that of the list without its cuts, with every part, wherever the cuts are
+ * and however many there are. About lists of the calls of gbasave.h themselves, with cuts made of them, the same is a
+ * theorem about their contracts: see STATES in gbasave.h.
  */
 #ifndef GBASAVE_REPLAY_H
 #define GBASAVE_REPLAY_H
@@ -55,10 +56,12 @@ extern "C" {
 #define GBASAVE_REPLAY_END(n) (24 + (size_t)(n))
 
 /*
- * Opens the image, plays the list, and writes its answers to the beginning of `out`. It returns 0 or the number of the
- * first question to which the answer is no.
+ * Opens the image with the part, plays the list, and writes its answers to the beginning of `out`. The part is a number
+ * of the table at PARTS in gbasave.h; 0 is the usual one. The call returns 0 or the number of the first question to
+ * which the answer is no.
  *   Asks:    1    Is the image 192 bytes to 32 MiB long?
  *            3    Does the memory have the length of the image's kind?
+ *            15   Does the part have the size of the image's kind? (See gbasave.h.)
  *            FFh  Is the list valid?
  *            FEh  Does the list contain no 02, or does the cartridge have no EEPROM?
  *            13   Is the scratch at least as long as the memory?
@@ -70,8 +73,9 @@ extern "C" {
  * The caller has to ensure what gbasave.h says: no pointer is NULL, except that of a buffer whose length is 0, and no
  * two objects overlap.
  */
-uint32_t gbasave_replay(const uint8_t *image, size_t image_length, const uint8_t *list, size_t list_length, uint8_t *memory,
-                        size_t memory_length, uint8_t *scratch, size_t scratch_length, uint8_t *out, size_t out_length);
+uint32_t gbasave_replay(const uint8_t *image, size_t image_length, uint32_t part, const uint8_t *list,
+                        size_t list_length, uint8_t *memory, size_t memory_length, uint8_t *scratch,
+                        size_t scratch_length, uint8_t *out, size_t out_length);
 
 #ifdef __cplusplus
 }

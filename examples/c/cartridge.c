@@ -4,19 +4,36 @@
 
 #include <stdlib.h>
 
-uint32_t cartridge_open(cartridge *cart, const uint8_t *image, size_t image_length)
+const char *answer_text(uint32_t answer)
+{
+    switch (answer) {
+    case OTHER_CARTRIDGE: return "the state belongs to another cartridge";
+    case OTHER_PART: return "the state was taken with another part";
+    default: return gbasave_refusal_text(answer);
+    }
+}
+
+const char *kind_text(uint32_t kind)
+{
+    static const char *const names[] = {"none",           "SRAM",              "flash, 64 KiB",
+                                        "flash, 128 KiB", "EEPROM, 512 bytes", "EEPROM, 8 KiB"};
+    return names[kind];
+}
+
+uint32_t cartridge_open(cartridge *cart, const uint8_t *image, size_t image_length, uint32_t part)
 {
     uint32_t size;
     accepted("the memory's size", gbasave_save_size(image, image_length, &size));
     cart->memory = allocate(size);
     cart->length = size;
-    uint32_t answer = gbasave_from_bytes(&cart->record, image, image_length, cart->memory, cart->length);
+    uint32_t answer = gbasave_from_bytes(&cart->record, image, image_length, part, cart->memory, cart->length);
     if (answer != GBASAVE_ACCEPTED) {
         cartridge_close(cart);
         return answer;
     }
     cart->id.kind = cart->record.bytes[GBASAVE_RECORD_KIND];
     cart->id.image_length = (uint32_t)image_length;
+    cart->id.part = cart->record.bytes[GBASAVE_RECORD_PART];
     accepted("CRC", gbasave_rom_crc(image, image_length, &cart->id.image_crc));
     return GBASAVE_ACCEPTED;
 }
@@ -60,6 +77,8 @@ uint32_t cartridge_resume(cartridge *cart, const saved_state *state)
 {
     if (!same_cartridge(&cart->id, &state->id))
         return OTHER_CARTRIDGE;
+    if (cart->id.part != state->id.part)
+        return OTHER_PART;
     /* Before the load, so that a refused state changes nothing; after it, since the load may have made the chip large. */
     uint32_t answer = gbasave_restore_chip_state(&cart->record, state->chip, sizeof state->chip);
     if (answer != GBASAVE_ACCEPTED)

@@ -5,11 +5,12 @@
 #include <gbasave.h>
 #include <stdbool.h>
 
-/* What tells one cartridge from another. */
+/* What tells one cartridge from another, and the part with which it is opened. */
 typedef struct identity {
     uint32_t kind;
     uint32_t image_length;
     uint32_t image_crc;
+    uint32_t part;
 } identity;
 
 typedef struct cartridge {
@@ -27,11 +28,20 @@ typedef struct saved_state {
     uint32_t length; /* of the file; 0 if the kind has none */
 } saved_state;
 
-/* Returned by cartridge_resume, beside the numbers of gbasave.h: the state belongs to another cartridge. */
-enum { OTHER_CARTRIDGE = 0x100 };
+/* Returned by cartridge_resume, beside the numbers of gbasave.h. */
+enum {
+    OTHER_CARTRIDGE = 0x100, /* the state belongs to another cartridge */
+    OTHER_PART               /* the state belongs to this cartridge, opened with another part */
+};
+
+/* Returns a text for what cartridge_open or cartridge_resume returns. */
+const char *answer_text(uint32_t answer);
+
+/* Returns the kind's name for a person. */
+const char *kind_text(uint32_t kind);
 
 /* Returns 0 or the number of a refusal. A refused cartridge need not be closed. The image is not kept. */
-uint32_t cartridge_open(cartridge *cart, const uint8_t *image, size_t image_length);
+uint32_t cartridge_open(cartridge *cart, const uint8_t *image, size_t image_length, uint32_t part);
 void cartridge_close(cartridge *cart);
 
 /* Returns whether the file has to be written out, and clears the changed flag. */
@@ -41,8 +51,8 @@ saved_state take_state(const cartridge *cart);
 void drop_state(saved_state *state);
 
 /*
- * Resumes a state in an open cartridge of the same image, whatever was played on it. The file then counts as changed.
- * Returns 0, the number of a refusal or OTHER_CARTRIDGE. If it is not 0, the cartridge is unchanged.
+ * Resumes a state in an open cartridge of the same image and part, whatever was played on it. The file then counts as
+ * changed. Returns 0, the number of a refusal, OTHER_CARTRIDGE or OTHER_PART. If it is not 0, the cartridge is unchanged.
  */
 uint32_t cartridge_resume(cartridge *cart, const saved_state *state);
 

@@ -43,6 +43,20 @@ void flash_id_mode(cartridge *cart, int on)
     flash_command(cart, 0x0E005555, on ? 0x90 : 0xF0);
 }
 
+uint32_t read_id_word(const cartridge *cart)
+{
+    uint32_t maker = read_byte(cart, 0x0E000000), device = read_byte(cart, 0x0E000001);
+    return device << 8 | maker;
+}
+
+uint32_t flash_id_word(cartridge *cart)
+{
+    flash_id_mode(cart, 1);
+    uint32_t word = read_id_word(cart);
+    flash_id_mode(cart, 0);
+    return word;
+}
+
 void flash_select_bank(cartridge *cart, uint8_t bank)
 {
     flash_command(cart, 0x0E005555, 0xB0);

@@ -17,6 +17,9 @@ uint8_t read_byte(const cartridge *cart, uint32_t address);
 void write_byte(cartridge *cart, uint32_t address, uint8_t value);
 
 void flash_id_mode(cartridge *cart, int on);
+/* The chip's ID word: as it is read in ID mode, and with ID mode on for the reading only. */
+uint32_t read_id_word(const cartridge *cart);
+uint32_t flash_id_word(cartridge *cart);
 void flash_select_bank(cartridge *cart, uint8_t bank);
 void flash_program(cartridge *cart, uint32_t address, uint8_t value);
 void flash_erase_sector(cartridge *cart, uint32_t address);

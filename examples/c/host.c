@@ -1,21 +1,21 @@
 /*
  * A small host. It opens images, saves on every chip, takes states in the middle of an 81-bit write and resumes them in a
- * fresh cartridge and in the open one. It checks every answer; a wrong one ends the program with status 1.
+ * fresh cartridge and in the open one. It gives a game the flash chip that the game looks for. It checks every answer; a
+ * wrong one ends the program with status 1.
  *
  *     host           runs the examples below, on images that the program makes
- *     host IMAGE     prints what the part finds in an image file
+ *     host IMAGE     prints what is found in an image file
  */
 #include "check.h"
 #include "game.h"
+#include "parts.h"
 #include "refusals.h"
+#include "states.h"
 
 #include <inttypes.h>
 #include <stdio.h>
 #include <stdlib.h>
 #include <string.h>
-
-static const char *const KIND_NAMES[] = {"none",           "SRAM",              "flash, 64 KiB",
-                                         "flash, 128 KiB", "EEPROM, 512 bytes", "EEPROM, 8 KiB"};
 
 /* The archive's version is the header's, and the header's text and number are the same version. */
 static void check_version(void)
@@ -29,12 +29,12 @@ static void check_version(void)
 }
 
 /* The CRC of an image that is read 512 bytes at a time, as from a card. */
-static uint32_t crc_in_parts(const uint8_t *image, size_t length)
+static uint32_t crc_in_pieces(const uint8_t *image, size_t length)
 {
     uint32_t crc;
     accepted("CRC, start", gbasave_crc_start(&crc));
     for (size_t at = 0; at < length; at += 512)
-        accepted("CRC, part", gbasave_crc_feed(&crc, image + at, length - at < 512 ? length - at : 512));
+        accepted("CRC, piece", gbasave_crc_feed(&crc, image + at, length - at < 512 ? length - at : 512));
     accepted("CRC, finish", gbasave_crc_finish(&crc));
     return crc;
 }
@@ -49,12 +49,12 @@ static void describe(const uint8_t *image, size_t length)
     accepted("read", gbasave_read32(image, length, (uint32_t)length - 1, &last));
     expect("past the image's last byte are zeros", last == image[length - 1]);
     accepted("CRC", gbasave_rom_crc(image, length, &crc));
-    expect("the CRC is the same in parts", crc_in_parts(image, length) == crc);
+    expect("the CRC is the same in pieces", crc_in_pieces(image, length) == crc);
     accepted("kind", gbasave_detect_save_type(image, length, &kind));
     accepted("memory", gbasave_memory_size(kind, &size));
     printf("Image \"%.*s\", %zu bytes, CRC %08" PRIX32 ", header check %02" PRIX32 ", %s\n", (int)title_length, (char *)title,
            length, crc, check, check == there ? "as in the header" : "but the header has another value");
-    printf("  save chip: %s; save memory: %" PRIu32 " bytes\n", KIND_NAMES[kind], size);
+    printf("  save chip: %s; save memory: %" PRIu32 " bytes\n", kind_text(kind), size);
 }
 
 static void print_bytes(const char *what, const uint8_t *bytes, size_t count)
@@ -72,7 +72,7 @@ static void sram_story(void)
     uint8_t *image = make_image("SRAM STORY", "SRAM_V");
     cartridge cart, other;
     describe(image, IMAGE_LENGTH);
-    accepted("opening", cartridge_open(&cart, image, IMAGE_LENGTH));
+    accepted("opening", cartridge_open(&cart, image, IMAGE_LENGTH, GBASAVE_PART_USUAL));
 
     expect("nothing stored yet", !cartridge_take_changed(&cart));
     for (uint32_t i = 0; i < 4; i++)
@@ -88,7 +88,7 @@ static void sram_story(void)
     uint8_t *file = allocate(cart.length + FOOTER), *written = allocate(cart.length + FOOTER);
     accepted("export", gbasave_save_data(&cart.record, cart.memory, cart.length, file, cart.length, &length));
     memset(file + length, 0xEE, FOOTER);
-    accepted("opening", cartridge_open(&other, image, IMAGE_LENGTH));
+    accepted("opening", cartridge_open(&other, image, IMAGE_LENGTH, GBASAVE_PART_USUAL));
     accepted("import", gbasave_import_save(&other.record, other.memory, other.length, file, length + FOOTER, &kept));
     printf("  a file of %" PRIu32 " bytes is imported elsewhere, %" PRIu32 " kept\n", length + FOOTER, kept);
     same("the other memory", other.memory, cart.memory, cart.length);
@@ -107,12 +107,12 @@ static void flash_story(void)
     uint8_t *image = make_image("FLASH STORY", "FLASH1M_V");
     cartridge cart;
     describe(image, IMAGE_LENGTH);
-    accepted("opening", cartridge_open(&cart, image, IMAGE_LENGTH));
+    accepted("opening", cartridge_open(&cart, image, IMAGE_LENGTH, GBASAVE_PART_USUAL));
 
     flash_id_mode(&cart, 1);
     printf("  maker and device         %02X %02X\n", read_byte(&cart, 0x0E000000), read_byte(&cart, 0x0E000001));
-    expect("the chip's numbers", read_byte(&cart, 0x0E000000) == 0x62 && read_byte(&cart, 0x0E000001) == 0x13);
     flash_id_mode(&cart, 0);
+    expect("the chip's numbers", flash_id_word(&cart) == 0x1362);
 
     flash_program(&cart, 0x0E003000, 0x11);
     flash_select_bank(&cart, 1);
@@ -143,7 +143,7 @@ static saved_state played(const uint8_t *image, int cut, where resumed, bool sho
     cartridge cart;
     uint8_t bits[WRITE_BITS];
     int sent = 0;
-    accepted("opening", cartridge_open(&cart, image, IMAGE_LENGTH));
+    accepted("opening", cartridge_open(&cart, image, IMAGE_LENGTH, GBASAVE_PART_USUAL));
     eeprom_write_block(&cart, 3, EARLIER);
     eeprom_write_bits(bits, 100, DATA);
     accepted("DMA", gbasave_eeprom_begin_dma(&cart.record, WRITE_BITS));
@@ -157,7 +157,7 @@ static saved_state played(const uint8_t *image, int cut, where resumed, bool sho
         }
         if (resumed == FRESH) {
             cartridge_close(&cart);
-            accepted("opening", cartridge_open(&cart, image, IMAGE_LENGTH));
+            accepted("opening", cartridge_open(&cart, image, IMAGE_LENGTH, GBASAVE_PART_USUAL));
         } else {
             /* What is played on after the state was taken is forgotten. */
             accepted("DMA", gbasave_eeprom_begin_dma(&cart.record, WRITE_BITS));
@@ -176,13 +176,6 @@ static saved_state played(const uint8_t *image, int cut, where resumed, bool sho
     saved_state end = take_state(&cart);
     cartridge_close(&cart);
     return end;
-}
-
-static void same_states(const saved_state *a, const saved_state *b)
-{
-    expect("the files have the same length", a->length == b->length);
-    same("the files", a->file, b->file, a->length);
-    same("the chips", a->chip, b->chip, GBASAVE_STATE_SIZE);
 }
 
 static void eeprom_story(void)
@@ -210,64 +203,6 @@ static void eeprom_story(void)
     free(image);
 }
 
-/* Tries to resume a state that this cartridge must not take. */
-static void not_resumed(const char *what, cartridge *cart, const saved_state *state, uint32_t number, const char *why)
-{
-    saved_state before = take_state(cart);
-    expect(what, cartridge_resume(cart, state) == number);
-    saved_state after = take_state(cart);
-    same_states(&before, &after);
-    expect("the flag is unchanged", !cartridge_take_changed(cart));
-    printf("  %-24s not resumed: %s\n", what, why);
-    drop_state(&before);
-    drop_state(&after);
-}
-
-static void state_story(void)
-{
-    uint8_t *image = make_image("STATE STORY", "SRAM_V");
-    uint8_t *same_kind = make_image("OTHER STORY", "SRAM_V"), *other_kind = make_image("OTHER STORY", "FLASH_V");
-    cartridge cart, other;
-    printf("States\n");
-    accepted("opening", cartridge_open(&cart, image, IMAGE_LENGTH));
-    write_byte(&cart, 0x0E000000, 0x5A);
-    saved_state state = take_state(&cart);
-    cartridge_close(&cart);
-
-    /* The file has not been written out, and the state has no changed flag. */
-    accepted("opening", cartridge_open(&cart, image, IMAGE_LENGTH));
-    accepted("resuming", cartridge_resume(&cart, &state));
-    expect("the byte is there", read_byte(&cart, 0x0E000000) == 0x5A);
-    expect("the file counts as changed, once", cartridge_take_changed(&cart) && !cartridge_take_changed(&cart));
-    printf("  in a fresh cartridge     resumed; the file counts as changed\n");
-
-    write_byte(&cart, 0x0E000000, 0xA5);
-    expect("the file is written out", cartridge_take_changed(&cart));
-    accepted("resuming", cartridge_resume(&cart, &state));
-    expect("the byte is there again", read_byte(&cart, 0x0E000000) == 0x5A);
-    expect("the file counts as changed, once", cartridge_take_changed(&cart) && !cartridge_take_changed(&cart));
-    printf("  in the open cartridge    resumed; the file counts as changed\n");
-
-    const char *foreign = "the state belongs to another cartridge";
-    accepted("opening", cartridge_open(&other, other_kind, IMAGE_LENGTH));
-    not_resumed("in a flash cartridge", &other, &state, OTHER_CARTRIDGE, foreign);
-    cartridge_close(&other);
-    accepted("opening", cartridge_open(&other, same_kind, IMAGE_LENGTH));
-    not_resumed("in another SRAM one", &other, &state, OTHER_CARTRIDGE, foreign);
-    cartridge_close(&other);
-
-    write_byte(&cart, 0x0E000000, 0xA5);
-    expect("the file is written out", cartridge_take_changed(&cart));
-    state.chip[5] = 7;
-    not_resumed("a damaged state", &cart, &state, GBASAVE_REFUSED_STATE_PHASE,
-                gbasave_refusal_text(GBASAVE_REFUSED_STATE_PHASE));
-    drop_state(&state);
-    cartridge_close(&cart);
-    free(image);
-    free(same_kind);
-    free(other_kind);
-}
-
 static void describe_file(const char *path)
 {
     FILE *file = fopen(path, "rb");
@@ -278,7 +213,7 @@ static void describe_file(const char *path)
     fclose(file);
 
     cartridge cart;
-    accepted("opening", cartridge_open(&cart, image, length));
+    accepted("opening", cartridge_open(&cart, image, length, GBASAVE_PART_USUAL));
     describe(image, length);
     cartridge_close(&cart);
     free(image);
@@ -295,6 +230,7 @@ int main(int argc, char **argv)
     flash_story();
     eeprom_story();
     state_story();
+    part_story();
     refusals();
     empty_slices();
     return 0;

@@ -25,8 +25,8 @@ static pair open_pair(const char *title, const char *marker)
 {
     uint8_t *image = make_image(title, marker);
     pair p;
-    accepted("opening", cartridge_open(&p.cart, image, IMAGE_LENGTH));
-    accepted("opening", cartridge_open(&p.before, image, IMAGE_LENGTH));
+    accepted("opening", cartridge_open(&p.cart, image, IMAGE_LENGTH, GBASAVE_PART_USUAL));
+    accepted("opening", cartridge_open(&p.before, image, IMAGE_LENGTH, GBASAVE_PART_USUAL));
     free(image);
     return p;
 }
@@ -52,8 +52,8 @@ static void image_refused(void)
     uint32_t kind = UNTOUCHED;
     memset(&record, 0xEE, sizeof record);
     shown(GBASAVE_REFUSED_IMAGE_LENGTH, "an image of 191 bytes",
-          gbasave_from_bytes(&record, image, sizeof image, memory, 0));
-    same("a refused opening writes 24 zeros to the record", record.bytes, zeros.bytes, GBASAVE_RECORD_SIZE);
+          gbasave_from_bytes(&record, image, sizeof image, GBASAVE_PART_USUAL, memory, 0));
+    same("a refused opening writes 25 zeros to the record", record.bytes, zeros.bytes, GBASAVE_RECORD_SIZE);
     expect("a refused opening does not change the memory", memory[0] == 0x5A);
     expect("its kind is refused too",
            gbasave_detect_save_type(image, sizeof image, &kind) == GBASAVE_REFUSED_IMAGE_LENGTH && kind == UNTOUCHED);
@@ -131,14 +131,47 @@ static void file_refused(void)
     close_pair(&p);
 }
 
+static void part_refused(void)
+{
+    uint8_t *image = make_image("FLASH REFUSE", "FLASH_V"), *memory = allocate(GBASAVE_MEMORY_FLASH64);
+    gbasave_record record;
+    const gbasave_record zeros = {{0}};
+    uint32_t word = UNTOUCHED;
+    memset(&record, 0xEE, sizeof record);
+    memset(memory, 0x5A, GBASAVE_MEMORY_FLASH64);
+    shown(GBASAVE_REFUSED_PART, "a 128K part on a flash of 64 KiB",
+          gbasave_from_bytes(&record, image, IMAGE_LENGTH, GBASAVE_PART_SANYO_128K, memory, GBASAVE_MEMORY_FLASH64));
+    same("a refused opening writes 25 zeros to the record", record.bytes, zeros.bytes, GBASAVE_RECORD_SIZE);
+    expect("a refused opening does not change the memory", memory[0] == 0x5A);
+    expect("a number that names no part is refused too",
+           gbasave_from_bytes(&record, image, IMAGE_LENGTH, GBASAVE_PART_MACRONIX_128K + 1, memory,
+                              GBASAVE_MEMORY_FLASH64) == GBASAVE_REFUSED_PART);
+    expect("the memory's length is asked for first",
+           gbasave_from_bytes(&record, image, IMAGE_LENGTH, GBASAVE_PART_SANYO_128K, memory, 0) ==
+               GBASAVE_REFUSED_MEMORY_LENGTH);
+    expect("its ID word on this kind is refused too",
+           gbasave_id_word(GBASAVE_PART_SANYO_128K, GBASAVE_KIND_FLASH64, &word) == GBASAVE_REFUSED_PART &&
+               word == UNTOUCHED);
+
+    accepted("opening", gbasave_from_bytes(&record, image, IMAGE_LENGTH, GBASAVE_PART_SST_64K, memory,
+                                           GBASAVE_MEMORY_FLASH64));
+    record.bytes[GBASAVE_RECORD_PART] = GBASAVE_PART_SANYO_128K;
+    expect("a record whose part does not fit is not valid",
+           gbasave_save_read(&record, memory, GBASAVE_MEMORY_FLASH64, 0x0E000000, &word) == GBASAVE_REFUSED_RECORD &&
+               word == UNTOUCHED);
+    free(image);
+    free(memory);
+}
+
 void refusals(void)
 {
-    printf("Refusals; nothing is changed, except that a refused opening writes 24 zeros to the record\n");
+    printf("Refusals; nothing is changed, except that a refused opening writes 25 zeros to the record\n");
     image_refused();
     record_refused();
     byte_refused();
     serial_refused();
     file_refused();
+    part_refused();
 }
 
 /* A buffer of length 0 may have any pointer. */
@@ -147,11 +180,11 @@ static void empty_at(uint8_t *nowhere)
     uint8_t *image = make_image("NO CHIP", "");
     gbasave_record record;
     uint32_t value;
-    expect("no image", gbasave_from_bytes(&record, nowhere, 0, nowhere, 0) == GBASAVE_REFUSED_IMAGE_LENGTH);
+    expect("no image", gbasave_from_bytes(&record, nowhere, 0, GBASAVE_PART_USUAL, nowhere, 0) == GBASAVE_REFUSED_IMAGE_LENGTH);
     accepted("size of no image", gbasave_save_size(nowhere, 0, &value));
     expect("no image has no memory", value == 0);
 
-    accepted("opening", gbasave_from_bytes(&record, image, IMAGE_LENGTH, nowhere, 0));
+    accepted("opening", gbasave_from_bytes(&record, image, IMAGE_LENGTH, GBASAVE_PART_USUAL, nowhere, 0));
     expect("no chip", record.bytes[GBASAVE_RECORD_KIND] == GBASAVE_KIND_NONE);
     accepted("byte write", gbasave_save_write(&record, nowhere, 0, 0x0E000000, 1));
     accepted("byte read", gbasave_save_read(&record, nowhere, 0, 0x0E000000, &value));

@@ -31,7 +31,8 @@ static void no_image()
     bytes image, memory;
     gbasave_record record;
     std::uint32_t value = 7;
-    expect("opening no image", gbasave_from_bytes(&record, image.data(), 0, memory.data(), 0) == GBASAVE_REFUSED_IMAGE_LENGTH);
+    expect("opening no image", gbasave_from_bytes(&record, image.data(), 0, GBASAVE_PART_USUAL, memory.data(), 0) ==
+                                   GBASAVE_REFUSED_IMAGE_LENGTH);
     expect("kind of no image", gbasave_detect_save_type(image.data(), 0, &value) == GBASAVE_REFUSED_IMAGE_LENGTH);
     expect("CRC of no image", gbasave_rom_crc(image.data(), 0, &value) == GBASAVE_REFUSED_IMAGE_LENGTH);
     expect("header check of no image", gbasave_header_checksum(image.data(), 0, &value) == GBASAVE_REFUSED_IMAGE_LENGTH);
@@ -51,8 +52,10 @@ static void no_memory()
     bytes memory, file;
     gbasave_record record;
     std::uint32_t value = 7;
-    expect("opening", gbasave_from_bytes(&record, image.data(), image.size(), memory.data(), memory.size()) == 0);
+    expect("opening", gbasave_from_bytes(&record, image.data(), image.size(), GBASAVE_PART_USUAL, memory.data(), 0) == 0);
     expect("kind NONE", record.bytes[GBASAVE_RECORD_KIND] == GBASAVE_KIND_NONE);
+    expect("the usual part", record.bytes[GBASAVE_RECORD_PART] == GBASAVE_PART_USUAL);
+    expect("no ID word", gbasave_id_word(GBASAVE_PART_USUAL, GBASAVE_KIND_NONE, &value) == 0 && value == 0);
     expect("byte write", gbasave_save_write(&record, memory.data(), 0, 0x0E000000, 1) == 0);
     expect("byte read", gbasave_save_read(&record, memory.data(), 0, 0x0E000000, &value) == 0 && value == 0xFF);
     expect("bit out", gbasave_eeprom_read(&record, memory.data(), 0, &value) == 0 && value == 1);
@@ -65,15 +68,15 @@ static void no_memory()
     std::puts("kind NONE with an empty memory: opens, plays, loads and exports no bytes");
 }
 
-static void no_part()
+static void no_piece()
 {
-    bytes part;
+    bytes piece;
     std::uint32_t crc, before;
     expect("CRC, start", gbasave_crc_start(&crc) == 0);
     before = crc;
-    expect("an empty part changes nothing", gbasave_crc_feed(&crc, part.data(), part.size()) == 0 && crc == before);
+    expect("an empty piece changes nothing", gbasave_crc_feed(&crc, piece.data(), piece.size()) == 0 && crc == before);
     expect("CRC of no bytes", gbasave_crc_finish(&crc) == 0 && crc == 0);
-    std::puts("an empty part of an image: the CRC goes on from where it was");
+    std::puts("an empty piece of an image: the CRC goes on from where it was");
 }
 
 // The end of a replay is the file's status and length, and the state with its status: of a fresh kind NONE all 0.
@@ -82,14 +85,15 @@ static void no_list()
     const bytes image = image_with("");
     bytes nothing, out(5 + 1 + GBASAVE_STATE_SIZE, 0x5A);
     const bytes as_it_was = out;
-    expect("replay, empty image",
-           gbasave_replay(nothing.data(), 0, nothing.data(), 0, nothing.data(), 0, nothing.data(), 0, out.data(), out.size()) ==
-               GBASAVE_REFUSED_IMAGE_LENGTH);
-    expect("replay, empty output", gbasave_replay(image.data(), image.size(), nothing.data(), 0, nothing.data(), 0, nothing.data(),
-                                                  0, nothing.data(), 0) == GBASAVE_REFUSED_DESTINATION_LENGTH);
+    const auto replay = [&](const bytes &of, std::uint32_t part, bytes &to) {
+        return gbasave_replay(of.data(), of.size(), part, nothing.data(), 0, nothing.data(), 0, nothing.data(), 0, to.data(),
+                              to.size());
+    };
+    expect("replay, empty image", replay(nothing, GBASAVE_PART_USUAL, out) == GBASAVE_REFUSED_IMAGE_LENGTH);
+    expect("replay, no flash for the part", replay(image, GBASAVE_PART_SST_64K, out) == GBASAVE_REFUSED_PART);
+    expect("replay, empty output", replay(image, GBASAVE_PART_USUAL, nothing) == GBASAVE_REFUSED_DESTINATION_LENGTH);
     expect("a refused replay writes nothing", out == as_it_was);
-    expect("replay", gbasave_replay(image.data(), image.size(), nothing.data(), 0, nothing.data(), 0, nothing.data(), 0, out.data(),
-                                    out.size()) == 0);
+    expect("replay", replay(image, GBASAVE_PART_USUAL, out) == 0);
     expect("the end alone", out == bytes(out.size(), 0));
     std::puts("a replay of an empty list, with an empty memory and scratch: writes the end alone");
 }
@@ -104,8 +108,10 @@ static void no_file(const std::string &marker)
     expect("size", gbasave_save_size(image.data(), image.size(), &size) == 0 && size > 0);
     bytes memory(size, 0x5A);
     expect("opening, empty memory",
-           gbasave_from_bytes(&record, image.data(), image.size(), nothing.data(), 0) == GBASAVE_REFUSED_MEMORY_LENGTH);
-    expect("opening", gbasave_from_bytes(&record, image.data(), image.size(), memory.data(), memory.size()) == 0);
+           gbasave_from_bytes(&record, image.data(), image.size(), GBASAVE_PART_USUAL, nothing.data(), 0) ==
+               GBASAVE_REFUSED_MEMORY_LENGTH);
+    expect("opening",
+           gbasave_from_bytes(&record, image.data(), image.size(), GBASAVE_PART_USUAL, memory.data(), memory.size()) == 0);
     memory.assign(size, 0x5A);
     expect("import",
            gbasave_import_save(&record, memory.data(), size, nothing.data(), 0, &value) == GBASAVE_REFUSED_FILE_LENGTH);
@@ -131,7 +137,7 @@ int main()
     no_memory();
     for (const char *marker : {"SRAM_V", "FLASH_V", "FLASH1M_V", "EEPROM_V"})
         no_file(marker);
-    no_part();
+    no_piece();
     no_list();
     return 0;
 }

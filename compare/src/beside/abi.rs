@@ -1,13 +1,23 @@
 //! The part's calls as the archives have them; `compare/link` links those. Each answers 0 or a refusal number; a slice is a
 //! pointer and a length.
 
-pub type Record = [u8; 24];
+pub const RECORD_SIZE: usize = 25;
+pub type Record = [u8; RECORD_SIZE];
+
+/// The chip record's place in the record, and the part's. (A part is a maker's flash chip here.)
+pub const CHIP: std::ops::Range<usize> = 6..24;
+pub const PART: usize = 24;
+
+/// The part of all runs beside the original, which has no other.
+pub const USUAL_PART: u32 = 0;
+pub const MACRONIX_128K: u32 = 5;
 
 extern "C" {
     pub fn gbasave_from_bytes(
         record: &mut Record,
         image: *const u8,
         image_len: usize,
+        part: u32,
         memory: *mut u8,
         memory_len: usize,
     ) -> u32;
@@ -51,17 +61,18 @@ extern "C" {
     ) -> u32;
     pub fn gbasave_rom_crc(image: *const u8, image_len: usize, value: &mut u32) -> u32;
     pub fn gbasave_crc_start(crc: &mut u32) -> u32;
-    pub fn gbasave_crc_feed(crc: &mut u32, part: *const u8, part_len: usize) -> u32;
+    pub fn gbasave_crc_feed(crc: &mut u32, piece: *const u8, piece_len: usize) -> u32;
     pub fn gbasave_crc_finish(crc: &mut u32) -> u32;
     pub fn gbasave_detect_save_type(image: *const u8, image_len: usize, kind: &mut u32) -> u32;
     pub fn gbasave_save_fit(image: *const u8, image_len: usize, length: usize, kept: &mut u32) -> u32;
     pub fn gbasave_save_size(image: *const u8, image_len: usize, size: &mut u32) -> u32;
     pub fn gbasave_memory_size(kind: u32, size: &mut u32) -> u32;
 
-    /// Runs a list of calls, with its cuts, through the part.
+    /// Runs a list of calls, with its cuts.
     pub fn gbasave_replay(
         image: *const u8,
         image_len: usize,
+        part: u32,
         list: *const u8,
         list_len: usize,
         memory: *mut u8,

@@ -2,6 +2,7 @@
 
 mod crcs;
 
+use crate::abi::{RECORD_SIZE, USUAL_PART};
 use crate::part::Part;
 use crate::part_image as part;
 use crate::run::Run;
@@ -110,7 +111,10 @@ fn opening(run: &mut Run, image: &[u8]) {
     let cart = match rust::open(image) {
         Ok(cart) => cart,
         Err(refusal) => {
-            let (answer, _) = Part::open(image, 0);
+            let (answer, part) = Part::open(image, 0);
+            if *part.record() != [0; RECORD_SIZE] {
+                run.differ(&format!("from_bytes: refused, it leaves the record {}", hex(part.record())));
+            }
             return held(run, "from_bytes", Answer::refusal(refusal.into()), answer);
         }
     };
@@ -120,6 +124,7 @@ fn opening(run: &mut Run, image: &[u8]) {
     let mut record = Vec::from((image.len() as u32).to_le_bytes());
     record.extend([kind, 0]);
     record.extend(rust::chip_state(&cart));
+    record.push(USUAL_PART as u8);
     if record != part.record() || cart.memory() != part.memory() {
         run.differ(&format!(
             "from_bytes: the record is {}, not {}, or the memory is not erased",

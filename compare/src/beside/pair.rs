@@ -1,5 +1,6 @@
 //! A cartridge on both sides. After every call answer, chip record, flag, save memory and exported file are compared.
 
+use crate::abi::{CHIP, PART, USUAL_PART};
 use crate::original::Original;
 use crate::part::Part;
 use crate::run::{Fault, Run};
@@ -18,7 +19,7 @@ pub struct Pair<'a> {
     original: Original,
     part: Part,
     fresh: Chip,
-    /// The first five bytes of the part's record, which no call changes: image length and kind.
+    /// The first five bytes of the part's record, which no call changes: image length and kind. The last one, the flash part, stays too.
     identity: [u8; 5],
     /// The lengths that import takes, with what it keeps of them.
     fits: Vec<(u32, usize)>,
@@ -146,7 +147,7 @@ impl<'a> Pair<'a> {
             return Some(format!("the original's flag is {}; the part's is {}", flags[0], flags[1]));
         }
         let record = self.part.record();
-        if record[..5] != self.identity || record[5] > 1 || record[6..] != chips[1] {
+        if record[..5] != self.identity || record[5] > 1 || record[CHIP] != chips[1] || u32::from(record[PART]) != USUAL_PART {
             return Some(format!("the part's record is {}", hex(record)));
         }
         if self.original.memory() != self.part.memory() {

@@ -21,10 +21,16 @@ pub fn answer(call: impl FnOnce(&mut u32) -> u32) -> Answer {
 }
 
 impl Part {
-    /// Opens an image with a memory of the given length. Record and memory hold bytes that opening leaves nowhere.
+    /// Opens an image, with the usual flash part and a memory of the given length.
     pub fn open(image: &[u8], length: usize) -> (Answer, Self) {
-        let (mut record, mut memory) = ([0xEE; 24], vec![0x5A; length]);
-        let refusal = unsafe { gbasave_from_bytes(&mut record, image.as_ptr(), image.len(), memory.as_mut_ptr(), length) };
+        Self::open_with(image, USUAL_PART, length)
+    }
+
+    /// Opens an image with a flash part. Record and memory hold bytes that opening leaves nowhere.
+    pub fn open_with(image: &[u8], flash_part: u32, length: usize) -> (Answer, Self) {
+        let (mut record, mut memory) = ([0xEE; RECORD_SIZE], vec![0x5A; length]);
+        let to = memory.as_mut_ptr();
+        let refusal = unsafe { gbasave_from_bytes(&mut record, image.as_ptr(), image.len(), flash_part, to, length) };
         (Answer::refusal(refusal), Self { record, memory, file: vec![0; length] })
     }
 

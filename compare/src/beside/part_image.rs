@@ -30,12 +30,12 @@ pub fn rom_crc(image: &[u8]) -> Answer {
     answer(|value| unsafe { gbasave_rom_crc(image.as_ptr(), image.len(), value) })
 }
 
-/// The CRC by pieces: start, feed each part, finish.
-pub fn crc_of_parts<'a>(parts: impl IntoIterator<Item = &'a [u8]>) -> Answer {
+/// The CRC by pieces: start, feed each, finish.
+pub fn crc_of_pieces<'a>(pieces: impl IntoIterator<Item = &'a [u8]>) -> Answer {
     answer(|crc| unsafe {
         let mut refusal = gbasave_crc_start(crc);
-        for part in parts {
-            refusal |= gbasave_crc_feed(crc, part.as_ptr(), part.len());
+        for piece in pieces {
+            refusal |= gbasave_crc_feed(crc, piece.as_ptr(), piece.len());
         }
         refusal | gbasave_crc_finish(crc)
     })

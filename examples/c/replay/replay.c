@@ -1,11 +1,15 @@
-/* Writes an EEPROM block by 81 bits and reads it back, without a cut and with a cut after each call. The output is the same. */
+/*
+ * Two lists: an EEPROM block is written by 81 bits and read back, and the ID word of a Macronix flash chip is read. Each is
+ * played without a cut and with a cut after each call. The output is the same.
+ */
+#include <gbasave.h>
 #include <gbasave_replay.h>
 
 #include <stdio.h>
 #include <stdlib.h>
 #include <string.h>
 
-enum { MEMORY = 8192, LIST = 1024, OUT = 16384, NOWHERE = -1 };
+enum { LIST = 1024, OUT = GBASAVE_MEMORY_FLASH64 + 1024, NOWHERE = -1 };
 
 typedef struct list {
     uint8_t bytes[LIST];
@@ -20,12 +24,19 @@ static void end_item(list *l)
         l->bytes[l->length++] = 0x0A;
 }
 
-static void halfword(list *l, uint8_t item, unsigned value)
+/* The item's number and its bytes. */
+static void item(list *l, uint8_t number, const uint8_t *bytes, size_t count)
 {
-    l->bytes[l->length++] = item;
-    l->bytes[l->length++] = (uint8_t)(value >> 8);
-    l->bytes[l->length++] = (uint8_t)value;
+    l->bytes[l->length++] = number;
+    for (size_t i = 0; i < count; i++)
+        l->bytes[l->length++] = bytes[i];
     end_item(l);
+}
+
+static void halfword(list *l, uint8_t number, unsigned value)
+{
+    const uint8_t bytes[] = {(uint8_t)(value >> 8), (uint8_t)value};
+    item(l, number, bytes, sizeof bytes);
 }
 
 static void bits(list *l, uint64_t value, int count)
@@ -47,53 +58,93 @@ static list write_and_read(int cut_after)
     bits(&l, 3, 2);
     bits(&l, 100, 14);
     bits(&l, 0, 1);
-    for (int i = 0; i < 68; i++) {
-        l.bytes[l.length++] = 0x03;
-        end_item(&l);
-    }
+    for (int i = 0; i < 68; i++)
+        item(&l, 0x03, NULL, 0);
     return l;
 }
 
-static void play(const list *l, uint8_t *out)
+/* ID mode on, by three writes; the maker, at an even address; the device, at an odd one. */
+static list read_id(int cut_after)
 {
-    static uint8_t image[192], memory[MEMORY], scratch[MEMORY];
-    memcpy(image, "EEPROM_V", 8);
+    static const uint8_t writes[3][5] = {
+        {0x0E, 0, 0x55, 0x55, 0xAA}, {0x0E, 0, 0x2A, 0xAA, 0x55}, {0x0E, 0, 0x55, 0x55, 0x90}};
+    static const uint8_t reads[2][4] = {{0x0E, 0, 0, 0}, {0x0E, 0, 0, 1}};
+    list l = {.length = 0, .items = 0, .cut_after = cut_after};
+    for (int i = 0; i < 3; i++)
+        item(&l, 0x02, writes[i], sizeof writes[i]);
+    for (int i = 0; i < 2; i++)
+        item(&l, 0x01, reads[i], sizeof reads[i]);
+    return l;
+}
+
+/* A game: its marker, the part with which it is opened, the length of its memory, and what it does. */
+typedef struct game {
+    const char *marker;
+    uint32_t part;
+    size_t memory;
+    list (*calls)(int cut_after);
+} game;
+
+static const game EEPROM = {"EEPROM_V", GBASAVE_PART_USUAL, GBASAVE_MEMORY_EEPROM512, write_and_read};
+static const game FLASH = {"FLASH_V", GBASAVE_PART_MACRONIX_64K, GBASAVE_MEMORY_FLASH64, read_id};
+
+static uint32_t play(const game *g, const list *l, uint8_t *out)
+{
+    static uint8_t image[GBASAVE_IMAGE_MIN], memory[GBASAVE_MEMORY_FLASH64], scratch[GBASAVE_MEMORY_FLASH64];
+    memset(image, 0, sizeof image);
+    memcpy(image, g->marker, strlen(g->marker));
     memset(out, 0, OUT);
-    uint32_t answer = gbasave_replay(image, sizeof image, l->bytes, l->length, memory, sizeof memory, scratch, sizeof scratch, out, OUT);
+    return gbasave_replay(image, sizeof image, g->part, l->bytes, l->length, memory, g->memory, scratch, g->memory, out, OUT);
+}
+
+static void played(const game *g, const list *l, uint8_t *out)
+{
+    const uint32_t answer = play(g, l, out);
     if (answer != 0) {
         printf("refused: %u\n", (unsigned)answer);
         exit(1);
     }
 }
 
+static void cut_after_each(const game *g, const uint8_t *uncut)
+{
+    static uint8_t cut[OUT];
+    const int items = g->calls(NOWHERE).items;
+    int same = 0;
+    for (int number = 0; number < items; number++) {
+        const list with_cut = g->calls(number);
+        played(g, &with_cut, cut);
+        if (memcmp(cut, uncut, OUT) != 0) {
+            printf("a cut after item %d changes the output\n", number);
+            exit(1);
+        }
+        same++;
+    }
+    printf("a cut after each of %d calls: the same output %d times\n", items, same);
+}
+
 int main(void)
 {
-    static uint8_t uncut[OUT], cut[OUT];
+    static uint8_t uncut[OUT];
     list l = write_and_read(NOWHERE);
-    play(&l, uncut);
-
+    played(&EEPROM, &l, uncut);
     uint64_t data = 0;
     for (int i = 4; i < 68; i++) {
         size_t read = 1 + 81 + 1 + 17 + 2 * (size_t)i;
         data = data << 1 | uncut[read + 1];
     }
     printf("read back: %08lX%08lX\n", (unsigned long)(data >> 32), (unsigned long)(data & 0xFFFFFFFF));
+    cut_after_each(&EEPROM, uncut);
 
-    int same = 0;
-    for (int item = 0; item < l.items; item++) {
-        list with_cut = write_and_read(item);
-        play(&with_cut, cut);
-        if (memcmp(cut, uncut, OUT) != 0) {
-            printf("a cut after item %d changes the output\n", item);
-            return 1;
-        }
-        same++;
-    }
-    printf("a cut after each of %d calls: the same output %d times\n", l.items, same);
+    l = read_id(NOWHERE);
+    played(&FLASH, &l, uncut);
+    printf("%s: the device is %02X, the maker %02X\n", gbasave_part_text(FLASH.part), uncut[6], uncut[4]);
+    cut_after_each(&FLASH, uncut);
 
-    const uint8_t none[] = {0x04, 0x00};
-    uint8_t out[32];
-    uint8_t memory[1], image[192] = {0};
-    printf("not a list: %02X\n", (unsigned)gbasave_replay(image, sizeof image, none, sizeof none, memory, 0, memory, 0, out, sizeof out));
+    const game misfit = {FLASH.marker, GBASAVE_PART_MACRONIX_128K, FLASH.memory, read_id};
+    const uint32_t answer = play(&misfit, &l, uncut);
+    printf("%s: refused, %u: %s\n", gbasave_part_text(misfit.part), (unsigned)answer, gbasave_refusal_text(answer));
+    const list none = {.bytes = {0x04, 0x00}, .length = 2};
+    printf("not a list: %02X\n", (unsigned)play(&FLASH, &none, uncut));
     return 0;
 }

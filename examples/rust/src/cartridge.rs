@@ -3,8 +3,8 @@
 use std::fmt;
 
 use crate::answer::{accepted, sound, value};
-use crate::raw::{self, Record, RECORD_FLAG, RECORD_IMAGE_LENGTH, RECORD_KIND, RECORD_SIZE, STATE_SIZE};
-use crate::{rom_crc, save_size, ChipState, Identity, Kind, Refusal};
+use crate::raw::{self, Record, RECORD_FLAG, RECORD_IMAGE_LENGTH, RECORD_KIND, RECORD_PART, RECORD_SIZE, STATE_SIZE};
+use crate::{rom_crc, save_size, ChipState, Identity, Kind, Part, Refusal};
 
 /// A cartridge's backup chip: save memory and record. The cartridge owns both, so no call can get the wrong ones.
 #[derive(Clone, PartialEq, Eq)]
@@ -15,13 +15,21 @@ pub struct Cartridge {
 }
 
 impl Cartridge {
-    /// Opens a fresh cartridge: finds the kind in the image, erases the memory, and takes the image's CRC to recognise the
-    /// cartridge's states. Refused: [`Refusal::ImageLength`].
+    /// Opens a fresh cartridge with the usual part: finds the kind in the image, erases the memory, and takes the image's CRC to
+    /// recognise the cartridge's states. Refused: [`Refusal::ImageLength`].
     pub fn open(image: &[u8]) -> Result<Self, Refusal> {
+        Self::open_with_part(image, Part::Usual)
+    }
+
+    /// Opens a fresh cartridge for a game that looks for this part. Refused: [`Refusal::ImageLength`]; [`Refusal::Part`], if the
+    /// part does not have the size of the image's kind.
+    pub fn open_with_part(image: &[u8], part: Part) -> Result<Self, Refusal> {
         let image_crc = rom_crc(image)?;
         let mut cart = Self { record: [0; RECORD_SIZE], memory: vec![0; save_size(image)], image_crc };
         let (memory, length) = (cart.memory.as_mut_ptr(), cart.memory.len());
-        accepted(unsafe { raw::gbasave_from_bytes(&mut cart.record, image.as_ptr(), image.len(), memory, length) })?;
+        accepted(unsafe {
+            raw::gbasave_from_bytes(&mut cart.record, image.as_ptr(), image.len(), part.number(), memory, length)
+        })?;
         Ok(cart)
     }
 
@@ -30,10 +38,20 @@ impl Cartridge {
         Kind::of(self.record[RECORD_KIND].into()).expect("the record has a kind")
     }
 
-    /// Returns what tells this cartridge from others. Its states carry the same.
+    /// Returns the part with which the cartridge was opened.
+    pub fn part(&self) -> Part {
+        Part::of(self.record[RECORD_PART].into()).expect("the record has a part")
+    }
+
+    /// Returns what tells this cartridge from others, and its part. Its states carry the same.
     pub fn identity(&self) -> Identity {
         let image_length = self.record[RECORD_IMAGE_LENGTH].try_into().expect("a length has four bytes");
-        Identity { kind: self.kind(), image_length: u32::from_le_bytes(image_length), image_crc: self.image_crc }
+        Identity {
+            kind: self.kind(),
+            image_length: u32::from_le_bytes(image_length),
+            image_crc: self.image_crc,
+            part: self.part(),
+        }
     }
 
     /// Returns the whole save memory.
@@ -132,6 +150,8 @@ impl Cartridge {
 
 impl fmt::Debug for Cartridge {
     fn fmt(&self, to: &mut fmt::Formatter) -> fmt::Result {
-        to.debug_struct("Cartridge").field("kind", &self.kind()).field("record", &self.record).finish_non_exhaustive()
+        let (kind, part) = (self.kind(), self.part());
+        let mut cart = to.debug_struct("Cartridge");
+        cart.field("kind", &kind).field("part", &part).field("record", &self.record).finish_non_exhaustive()
     }
 }

@@ -15,7 +15,7 @@
 //! cart.save_write(0x0E00_0010, 0x5A);
 //! let state = cart.state();
 //!
-//! // Later, perhaps in another process. An open cartridge of the same image is resumed in the same way.
+//! // Later, perhaps in another process. An open cartridge of the same image and part is resumed in the same way.
 //! let mut resumed = Cartridge::open(&image)?;
 //! resumed.resume(&state)?;
 //! assert_eq!(resumed.save_read(0x0E00_0010), 0x5A);
@@ -26,6 +26,24 @@
 //! }
 //! # Ok::<(), Box<dyn std::error::Error>>(())
 //! ```
+//!
+//! Some games save only on one maker's flash chip. Such a game gets its [`Part`]:
+//!
+//! ```
+//! use gbasave::{Cartridge, Part};
+//!
+//! let mut image = vec![0; 1024];
+//! image[512..519].copy_from_slice(b"FLASH_V");
+//! let mut cart = Cartridge::open_with_part(&image, Part::Macronix64k)?;
+//! assert_eq!(cart.part().id_word(cart.kind())?, 0x1CC2);
+//!
+//! // The game turns ID mode on, and reads the maker and the device.
+//! for (address, byte) in [(0x0E00_5555, 0xAA), (0x0E00_2AAA, 0x55), (0x0E00_5555, 0x90)] {
+//!     cart.save_write(address, byte);
+//! }
+//! assert_eq!((cart.save_read(0x0E00_0000), cart.save_read(0x0E00_0001)), (0xC2, 0x1C));
+//! # Ok::<(), gbasave::Refusal>(())
+//! ```
 
 #![deny(missing_docs)]
 
@@ -34,6 +52,7 @@ mod cartridge;
 mod crc;
 mod image;
 mod kind;
+mod part;
 mod raw;
 mod refusal;
 mod state;
@@ -43,6 +62,7 @@ pub use cartridge::Cartridge;
 pub use crc::Crc;
 pub use image::{detect_save_type, header_checksum, read, read16, read32, rom_crc, save_fit, save_size, title};
 pub use kind::Kind;
+pub use part::Part;
 pub use refusal::Refusal;
 pub use state::{ChipState, Identity, NotResumed, State};
 pub use version::{version, VERSION};

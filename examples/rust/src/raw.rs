@@ -5,7 +5,7 @@
 
 use std::ops::Range;
 
-pub const RECORD_SIZE: usize = 24;
+pub const RECORD_SIZE: usize = 25;
 pub const STATE_SIZE: usize = 18;
 pub const TITLE_SIZE: usize = 36;
 
@@ -15,6 +15,8 @@ pub const RECORD_IMAGE_LENGTH: Range<usize> = 0..4;
 pub const RECORD_KIND: usize = 4;
 /// The offset of the changed flag in the record.
 pub const RECORD_FLAG: usize = 5;
+/// The offset of the part in the record.
+pub const RECORD_PART: usize = 24;
 
 pub type Record = [u8; RECORD_SIZE];
 
@@ -38,12 +40,14 @@ extern "C" {
     ) -> u32;
     pub fn gbasave_rom_crc(image: *const u8, image_length: usize, value: &mut u32) -> u32;
     pub fn gbasave_crc_start(crc: &mut u32) -> u32;
-    pub fn gbasave_crc_feed(crc: &mut u32, part: *const u8, part_length: usize) -> u32;
+    pub fn gbasave_crc_feed(crc: &mut u32, piece: *const u8, piece_length: usize) -> u32;
     pub fn gbasave_crc_finish(crc: &mut u32) -> u32;
+    pub fn gbasave_id_word(part: u32, kind: u32, word: &mut u32) -> u32;
     pub fn gbasave_from_bytes(
         record: &mut Record,
         image: *const u8,
         image_length: usize,
+        part: u32,
         memory: *mut u8,
         memory_length: usize,
     ) -> u32;

@@ -34,11 +34,13 @@ pub enum Refusal {
     DestinationLength,
     /// No file of the kind has this length.
     FileLength,
+    /// The part does not have the kind's size.
+    Part,
 }
 
 impl Refusal {
     /// All refusals, in the order of their numbers.
-    pub const ALL: [Self; 14] = [
+    pub const ALL: [Self; 15] = [
         Self::ImageLength,
         Self::Record,
         Self::MemoryLength,
@@ -53,6 +55,7 @@ impl Refusal {
         Self::StateCount,
         Self::DestinationLength,
         Self::FileLength,
+        Self::Part,
     ];
 
     /// Returns the refusal's number in `gbasave.h`.
@@ -60,7 +63,7 @@ impl Refusal {
         self as u32
     }
 
-    /// Returns the refusal with this number, 1 to 14.
+    /// Returns the refusal with this number, 1 to 15.
     pub fn of(number: u32) -> Option<Self> {
         Self::ALL.into_iter().find(|refusal| refusal.number() == number)
     }
@@ -82,6 +85,7 @@ impl Refusal {
             Self::StateCount => "the chip state's count is not allowed in its phase",
             Self::DestinationLength => "the destination is too short",
             Self::FileLength => "no file of this kind has this length",
+            Self::Part => "the part does not have the kind's size",
         }
     }
 }
@@ -121,6 +125,6 @@ mod tests {
                 format!("{refusal:?}").to_lowercase()
             );
         }
-        assert_eq!((Refusal::of(0), Refusal::of(15)), (None, None));
+        assert_eq!((Refusal::of(0), Refusal::of(16)), (None, None));
     }
 }

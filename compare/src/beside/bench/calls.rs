@@ -1,6 +1,7 @@
 //! Time per call.
 
 use super::{answered, calls, row, used, values, BATCH};
+use crate::abi::{MACRONIX_128K, USUAL_PART};
 use crate::part::Part;
 use crate::part_image;
 use crate::side::Side;
@@ -22,44 +23,55 @@ pub fn rows() {
 
 /// A cartridge on both sides, with the chip record given.
 fn open(kind: Kind, chip: Chip) -> (Cartridge, Part) {
+    open_with(kind, USUAL_PART, chip)
+}
+
+/// The same with a flash part. The original, and a part of before there were flash parts, has the usual one whatever is given.
+fn open_with(kind: Kind, flash_part: u32, chip: Chip) -> (Cartridge, Part) {
     let image = of_kind(kind);
     let mut cart = original::open(&image).expect("an image of an allowed length");
     original::restore(&mut cart, &chip).expect("an allowed record");
-    let (_, mut part) = Part::open(&image, MEMORY[usize::from(kind)]);
-    part.restore(&chip);
+    let (answer, mut part) = Part::open_with(&image, flash_part, MEMORY[usize::from(kind)]);
+    answered(answer);
+    answered(part.restore(&chip));
     (cart, part)
 }
 
 fn reads() {
     let mut id_mode = [0; 18];
     id_mode[2] = 1;
-    for (name, kind, chip) in [
-        ("byte read, None", kind::NONE, [0; 18]),
-        ("byte read, Sram", kind::SRAM, [0; 18]),
-        ("byte read, Flash64", kind::FLASH64, [0; 18]),
-        ("byte read, Flash128", kind::FLASH128, [0; 18]),
-        ("byte read, Flash128 in ID mode", kind::FLASH128, id_mode),
-        ("byte read, Eeprom512", kind::EEPROM512, [0; 18]),
+    for (name, kind, flash_part, chip) in [
+        ("byte read, None", kind::NONE, USUAL_PART, [0; 18]),
+        ("byte read, Sram", kind::SRAM, USUAL_PART, [0; 18]),
+        ("byte read, Flash64", kind::FLASH64, USUAL_PART, [0; 18]),
+        ("byte read, Flash128", kind::FLASH128, USUAL_PART, [0; 18]),
+        ("byte read, Flash128, Macronix", kind::FLASH128, MACRONIX_128K, [0; 18]),
+        ("byte read, Flash128 in ID mode", kind::FLASH128, USUAL_PART, id_mode),
+        ("byte read, Flash128 in ID mode, Macronix", kind::FLASH128, MACRONIX_128K, id_mode),
+        ("byte read, Eeprom512", kind::EEPROM512, USUAL_PART, [0; 18]),
     ] {
-        let (cart, part) = open(kind, chip);
+        let (cart, part) = open_with(kind, flash_part, chip);
         calls(name, |i| used(original::save_read(&cart, i * 37)), |i| used(answered(part.save_read(i * 37))));
     }
 }
 
 fn writes() {
-    for (name, kind, command) in [
-        ("byte write, None", kind::NONE, &[0x12][..]),
-        ("byte write, Sram", kind::SRAM, &[0x12]),
-        ("byte write, Eeprom512", kind::EEPROM512, &[0x12]),
-        ("byte write, flash state 0", kind::FLASH128, &[0x12]),
-        ("byte write, flash states 0 1", kind::FLASH128, &[0xAA, 0x12]),
-        ("byte write, flash states 0 1 2 (ID mode off)", kind::FLASH128, &[0xAA, 0x55, 0xF0]),
-        ("byte write, flash states 0 1 2 4 (program)", kind::FLASH128, &[0xAA, 0x55, 0xA0, 0x12]),
-        ("byte write, flash states 0 1 2 5 (bank)", kind::FLASH128, &[0xAA, 0x55, 0xB0, 0x01]),
-        ("byte write, flash states 0 1 2 6 7", kind::FLASH128, &[0xAA, 0x55, 0x80, 0xAA, 0x12]),
-        ("byte write, flash states 0 1 2 6 7 8 (no erase)", kind::FLASH128, &[0xAA, 0x55, 0x80, 0xAA, 0x55, 0x12]),
+    const PROGRAM: &[u8] = &[0xAA, 0x55, 0xA0, 0x12];
+    for (name, kind, flash_part, command) in [
+        ("byte write, None", kind::NONE, USUAL_PART, &[0x12][..]),
+        ("byte write, Sram", kind::SRAM, USUAL_PART, &[0x12]),
+        ("byte write, Eeprom512", kind::EEPROM512, USUAL_PART, &[0x12]),
+        ("byte write, flash state 0", kind::FLASH128, USUAL_PART, &[0x12]),
+        ("byte write, flash state 0, Macronix", kind::FLASH128, MACRONIX_128K, &[0x12]),
+        ("byte write, flash states 0 1", kind::FLASH128, USUAL_PART, &[0xAA, 0x12]),
+        ("byte write, flash states 0 1 2 (ID mode off)", kind::FLASH128, USUAL_PART, &[0xAA, 0x55, 0xF0]),
+        ("byte write, flash states 0 1 2 4 (program)", kind::FLASH128, USUAL_PART, PROGRAM),
+        ("byte write, flash states 0 1 2 4 (program), Macronix", kind::FLASH128, MACRONIX_128K, PROGRAM),
+        ("byte write, flash states 0 1 2 5 (bank)", kind::FLASH128, USUAL_PART, &[0xAA, 0x55, 0xB0, 0x01]),
+        ("byte write, flash states 0 1 2 6 7", kind::FLASH128, USUAL_PART, &[0xAA, 0x55, 0x80, 0xAA, 0x12]),
+        ("byte write, flash states 0 1 2 6 7 8 (no erase)", kind::FLASH128, USUAL_PART, &[0xAA, 0x55, 0x80, 0xAA, 0x55, 0x12]),
     ] {
-        let (mut cart, mut part) = open(kind, [0; 18]);
+        let (mut cart, mut part) = open_with(kind, flash_part, [0; 18]);
         let commands = command.repeat(BATCH as usize / 8);
         values(
             name,

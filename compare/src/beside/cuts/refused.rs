@@ -1,12 +1,14 @@
-//! What a replay refuses: bytes that are no list, byte writes to an EEPROM, images and buffers of a wrong length. Nothing is changed then.
+//! What a replay refuses: bytes that are no list, byte writes to an EEPROM, images and buffers of a wrong length, flash parts of a wrong size. Nothing
+//! is changed then.
 
 use super::random::{list, with_random_cuts};
 use super::replay::{Lengths, Replay};
+use crate::abi::USUAL_PART;
 use crate::random_lists::random_of;
 use compare::call::Call;
 use compare::images::{of_kind, LARGEST, SMALLEST};
 use compare::items::{encoded, list_of, room, Item};
-use compare::kind::{is_eeprom, EEPROM8K, MEMORY};
+use compare::kind::{is_eeprom, Kind, EEPROM8K, FLASH128, FLASH64, MEMORY};
 use compare::random::Random;
 
 /// Tries by kind; opening the last kind's image takes long.
@@ -25,9 +27,10 @@ pub fn compare(replay: &mut Replay) {
         let bytes = perhaps_a_list(random, replay);
         let lengths = lengths(random, replay, &bytes);
         let image = if random.one_in(16) { &image[..random.pick(&[0, 1, SMALLEST - 1])] } else { &image };
-        put(replay, image, &bytes, lengths);
+        let flash_part = if random.one_in(8) { misfit(random, replay.kind()) } else { USUAL_PART };
+        put(replay, image, flash_part, &bytes, lengths);
     }
-    put(replay, &vec![0; LARGEST + 1], &[], Lengths { memory: 0, scratch: 0, out: 0 });
+    put(replay, &vec![0; LARGEST + 1], USUAL_PART, &[], Lengths { memory: 0, scratch: 0, out: 0 });
 }
 
 /// One of each item, its bytes cut off anywhere.
@@ -37,7 +40,20 @@ fn cut_off(replay: &mut Replay, image: &[u8]) {
     let bytes = encoded(&list);
     let memory = replay.memory_length();
     for end in 0..bytes.len() {
-        put(replay, image, &bytes[..end], Lengths { memory, scratch: memory, out: LONGEST });
+        put(replay, image, USUAL_PART, &bytes[..end], Lengths { memory, scratch: memory, out: LONGEST });
+    }
+}
+
+/// A flash part of another size than the kind's, or a number that names none.
+fn misfit(random: &mut Random, kind: Kind) -> u32 {
+    let other_size: &[u32] = match kind {
+        FLASH64 => &[4, 5],
+        FLASH128 => &[1, 2, 3],
+        _ => &[1, 2, 3, 4, 5],
+    };
+    match random.below(2) {
+        0 => random.pick(other_size),
+        _ => random.pick(&[6, 7, 255, 256, 258, 0x8000_0000, u32::MAX]),
     }
 }
 
@@ -70,12 +86,14 @@ fn lengths(random: &mut Random, replay: &Replay, bytes: &[u8]) -> Lengths {
     Lengths { memory, scratch, out: out.min(LONGEST) }
 }
 
-/// Puts the bytes to the replay, which has to answer the number of the first question that is answered no.
-fn put(replay: &mut Replay, image: &[u8], bytes: &[u8], lengths: Lengths) {
+/// Puts the bytes to the replay, which has to answer the number of the first question that is answered no. A flash part other than the usual one
+/// does not fit.
+fn put(replay: &mut Replay, image: &[u8], flash_part: u32, bytes: &[u8], lengths: Lengths) {
     let list = list_of(bytes);
     let number = match &list {
         _ if !(SMALLEST..=LARGEST).contains(&image.len()) => 1,
         _ if lengths.memory != MEMORY[usize::from(replay.kind())] => 3,
+        _ if flash_part != USUAL_PART => 15,
         None => 255,
         Some(list) if is_eeprom(replay.kind()) && list.iter().any(Item::is_byte_write) => 254,
         Some(list) if lengths.scratch < lengths.memory || lengths.out < room(list, lengths.memory) => 13,
@@ -84,5 +102,5 @@ fn put(replay: &mut Replay, image: &[u8], bytes: &[u8], lengths: Lengths) {
             return replay.list(list, &uncut);
         }
     };
-    replay.refused(image, bytes, lengths, number);
+    replay.refused(image, flash_part, bytes, lengths, number);
 }

@@ -1,6 +1,6 @@
 //! The replay's side of a list: what it is lent, what it leaves there, and the original's answers beside it.
 
-use crate::abi::gbasave_replay;
+use crate::abi::{gbasave_replay, USUAL_PART};
 use crate::run::{Fault, Run};
 use compare::items::{encoded, Item};
 use compare::kind::{Kind, MEMORY, NAMES};
@@ -69,11 +69,11 @@ impl<'a> Replay<'a> {
         }
     }
 
-    /// Puts any bytes to the replay, which has to refuse them with this number and leave all as it was.
-    pub fn refused(&mut self, image: &[u8], bytes: &[u8], lengths: Lengths, number: u32) {
+    /// Puts any bytes to the replay, with any flash part. It has to refuse them with this number and leave all as it was.
+    pub fn refused(&mut self, image: &[u8], flash_part: u32, bytes: &[u8], lengths: Lengths, number: u32) {
         self.run.calls += 1;
         self.lend(lengths);
-        let refusal = replay(image, bytes, &mut self.memory, &mut self.scratch, &mut self.out);
+        let refusal = replay(image, flash_part, bytes, &mut self.memory, &mut self.scratch, &mut self.out);
         if refusal != number {
             self.run.differ(&format!("the replay has to refuse with {number} and answers {refusal}\n{}", bytes_shown(bytes)));
         }
@@ -112,7 +112,7 @@ impl<'a> Replay<'a> {
         let refusal = if self.run.fault == Fault::Replay {
             self.seed_fault(list)
         } else {
-            replay(&self.image, &encoded(list), &mut self.memory, &mut self.scratch, &mut self.out)
+            replay(&self.image, USUAL_PART, &encoded(list), &mut self.memory, &mut self.scratch, &mut self.out)
         };
         if refusal != 0 {
             return Some(format!("the replay refuses with {refusal}"));
@@ -160,11 +160,12 @@ impl<'a> Replay<'a> {
     }
 }
 
-fn replay(image: &[u8], list: &[u8], memory: &mut [u8], scratch: &mut [u8], out: &mut [u8]) -> u32 {
+fn replay(image: &[u8], flash_part: u32, list: &[u8], memory: &mut [u8], scratch: &mut [u8], out: &mut [u8]) -> u32 {
     unsafe {
         gbasave_replay(
             image.as_ptr(),
             image.len(),
+            flash_part,
             list.as_ptr(),
             list.len(),
             memory.as_mut_ptr(),

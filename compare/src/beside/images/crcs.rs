@@ -1,4 +1,4 @@
-//! The CRC of whole images, and of bytes that come in parts. The part goes through 32,768 bytes at a time, in eight lanes of 4,096.
+//! The CRC of whole images, and of bytes that come in pieces. The part goes through 32,768 bytes at a time, in eight lanes of 4,096.
 
 use super::{held, same};
 use crate::part_image as part;
@@ -18,7 +18,7 @@ const IMAGES: u32 = 24;
 pub fn compare(run: &mut Run, random: &mut Random) {
     let bytes = random_bytes(random, LARGEST + 8);
     run.at("the check value of the CRC".into());
-    same(run, "crc_feed", 0xCBF4_3926, part::crc_of_parts([&b"123456789"[..]]));
+    same(run, "crc_feed", 0xCBF4_3926, part::crc_of_pieces([&b"123456789"[..]]));
     for length in 0..=SHORT {
         at_each_offset(run, random, &bytes, length, 16);
     }
@@ -49,24 +49,24 @@ fn at_each_offset(run: &mut Run, random: &mut Random, bytes: &[u8], length: usiz
     }
 }
 
-/// The whole, the whole as one part, and cut into parts. Question 1 is asked of the whole alone.
+/// The whole, the whole as one piece, and cut into pieces. Question 1 is asked of the whole alone.
 fn crc(run: &mut Run, random: &mut Random, bytes: &[u8], longest: usize) {
     run.at(format!("the CRC of {} bytes", bytes.len()));
     let expected = rust::crc32(bytes);
     let whole = if bytes.len() < SMALLEST { Answer::refusal(1) } else { Answer::value(expected) };
     held(run, "rom_crc", whole, part::rom_crc(bytes));
-    same(run, "crc_feed, one part", expected, part::crc_of_parts([bytes]));
-    same(run, "crc_feed", expected, part::crc_of_parts(cut(random, bytes, longest)));
+    same(run, "crc_feed, one piece", expected, part::crc_of_pieces([bytes]));
+    same(run, "crc_feed", expected, part::crc_of_pieces(cut(random, bytes, longest)));
 }
 
-/// Parts of at most so many bytes, empty ones among them.
+/// Pieces of at most so many bytes, empty ones among them.
 fn cut<'a>(random: &mut Random, mut bytes: &'a [u8], longest: usize) -> Vec<&'a [u8]> {
-    let mut parts = Vec::new();
+    let mut pieces = Vec::new();
     while !bytes.is_empty() {
         let length = random.below(longest as u64 + 1) as usize;
-        let (part, rest) = bytes.split_at(length.min(bytes.len()));
-        parts.push(part);
+        let (piece, rest) = bytes.split_at(length.min(bytes.len()));
+        pieces.push(piece);
         bytes = rest;
     }
-    parts
+    pieces
 }

@@ -29,6 +29,19 @@ pub fn flash_id_mode(cart: &mut Cartridge, on: bool) {
     flash_command(cart, 0x0E00_5555, if on { 0x90 } else { 0xF0 });
 }
 
+/// The chip's ID word, as it is read in ID mode.
+pub fn read_id_word(cart: &Cartridge) -> u16 {
+    u16::from_le_bytes([cart.save_read(0x0E00_0000), cart.save_read(0x0E00_0001)])
+}
+
+/// The chip's ID word, with ID mode on for the reading only.
+pub fn flash_id_word(cart: &mut Cartridge) -> u16 {
+    flash_id_mode(cart, true);
+    let word = read_id_word(cart);
+    flash_id_mode(cart, false);
+    word
+}
+
 pub fn flash_select_bank(cart: &mut Cartridge, bank: u8) {
     flash_command(cart, 0x0E00_5555, 0xB0);
     cart.save_write(0x0E00_0000, bank);

@@ -1,7 +1,8 @@
 //! A small host. It opens images, saves on every chip, takes states in the middle of an 81-bit write and resumes them in a fresh
-//! cartridge and in the open one. A wrong answer ends the program.
+//! cartridge and in the open one. It gives a game the flash chip that the game looks for. A wrong answer ends the program.
 
 mod game;
+mod parts;
 mod refusals;
 mod states;
 
@@ -159,5 +160,6 @@ fn main() -> Result<(), Box<dyn Error>> {
     flash_story()?;
     eeprom_story()?;
     states::shown()?;
+    parts::shown()?;
     Ok(refusals::shown()?)
 }

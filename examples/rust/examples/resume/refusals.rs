@@ -1,7 +1,7 @@
 //! Every refusal that can occur when a cartridge owns its record and its memory.
 
 use crate::game::{self, image, WRITE_BITS};
-use gbasave::{Cartridge, Refusal};
+use gbasave::{Cartridge, Part, Refusal};
 
 fn refused(refusal: Refusal, what: &str, answer: Result<(), Refusal>) {
     assert_eq!(answer, Err(refusal), "{what}");
@@ -39,5 +39,9 @@ pub fn shown() -> Result<(), Refusal> {
 
     refused(Refusal::FileLength, "an import of 32,767 bytes", sram.import_save(&[0; 32767]).map(drop));
     assert!(sram == fresh);
+
+    let flash = image("FLASH REFUSE", "FLASH_V");
+    let opened = Cartridge::open_with_part(&flash, Part::Sanyo128k);
+    refused(Refusal::Part, "a 128K part on a flash of 64 KiB", opened.map(drop));
     Ok(())
 }

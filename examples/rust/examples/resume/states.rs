@@ -15,7 +15,7 @@ fn resumed(what: &str, cart: &mut Cartridge, state: &State) -> Result<(), NotRes
 }
 
 /// Tries to resume a state that this cartridge must not take.
-fn not_resumed(what: &str, cart: &mut Cartridge, state: &State, why: NotResumed) {
+pub fn not_resumed(what: &str, cart: &mut Cartridge, state: &State, why: NotResumed) {
     let before = cart.clone();
     assert_eq!(cart.resume(state), Err(why));
     assert!(*cart == before);

@@ -35,12 +35,12 @@ fn header_and_crc() {
 }
 
 #[test]
-fn crc_in_parts() {
+fn crc_in_pieces() {
     let image: Vec<u8> = (0..100_000).map(|i| (i % 251) as u8).collect();
     for length in [1, 7, 512, 32_768, 40_000, 100_000] {
         let mut crc = Crc::start();
         crc.feed(&[]);
-        image.chunks(length).for_each(|part| crc.feed(part));
+        image.chunks(length).for_each(|piece| crc.feed(piece));
         assert_eq!(Ok(crc.finish()), rom_crc(&image));
     }
     let mut crc = Crc::start();

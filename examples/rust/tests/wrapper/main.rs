@@ -5,6 +5,7 @@ mod files;
 #[path = "../../examples/resume/game.rs"]
 mod game;
 mod images;
+mod parts;
 mod serial;
 mod states;
 
