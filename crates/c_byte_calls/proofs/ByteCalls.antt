@@ -1,12 +1,15 @@
 -- The byte calls on a valid record's bytes. Assumes nothing.
 use mathlib.Core.Path.{_≡_, sym, ap, _∙_}
 use mathlib.Core.Logic.{_≢_}
+use mathlib.Core.Bool.{false}
 use mathlib.Core.List.{List, []}
 use Prim.Native.Nat.{ℕ}
 use native.Mathlib.Omega.{arith}
-use lib.ListN.{length}
+use lib.Dec.{eqb}
+use lib.ListN.{length, getD}
 use Rattle.memory.specs.Memory.{stored}
 use Rattle.kind.specs.Kind.{memorySize}
+use Rattle.flash.specs.declared.Flash.{Flash}
 use Rattle.byte_step.specs.declared.ByteStep.{ByteStep}
 use Rattle.byte_step.specs.ByteStep.{readByte, writeStep}
 use Rattle.cart.specs.Calls.{saveRead, saveWrite, readSave, writeSave, questions, accepted}
@@ -14,8 +17,12 @@ use Rattle.c_record.specs.RecordBytes.{cartOf, Valid}
 use Rattle.c_record.specs.Fields.{withFlash, withId}
 use Rattle.c_record.specs.AtExit.{plain, valueAt}
 use Rattle.c_record.specs.Calls.{reads, writes}
-use Rattle.c_record.proofs.FieldBytes.{put-flash}
+use Rattle.c_record.proofs.FieldBytes.{flash-read, put-flash}
 use Rattle.c_record.proofs.Calls.{memory-no, memory-yes, refused, done}
+
+-- the ID mode's byte
+pub id-off : (r : List ℕ) → getD r 8 0 ≡ 0 → cartOf r .chip .flash .id ≡ false
+id-off r e = sym (ap (λ (f : Flash). f .id) (flash-read r)) ∙ ap (λ (n : ℕ). eqb n 1) e
 
 module _ (r m : List ℕ) (v : Valid r) where
   -- question 3 is answered no

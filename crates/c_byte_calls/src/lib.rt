@@ -6,7 +6,9 @@ use c_record::RecordBytes;
 use c_record::layout;
 use memory::NO_FILE;
 ghost use mathlib.Core.Path.{_≡_};
+ghost use lib.ListN.{getD};
 ghost use Rattle.c_record.specs.RecordBytes.{Valid};
+ghost use Rattle.c_record.specs.Fields.{idAt};
 ghost use Rattle.c_record.specs.Calls.{reads, writes};
 
 fn read_valid(cart: &RecordBytes, memory: &[u8], address: u32, value: &mut u32) -> u32
@@ -38,6 +40,20 @@ fn read_any(cart: &RecordBytes, memory: &[u8], address: u32, value: &mut u32) ->
     read_valid(cart, &memory[..], address, value)
 }
 
+// Outside ID mode: the tables of ID words would be built in every read.
+fn read_shown(cart: &RecordBytes, memory: &[u8], address: u32, value: &mut u32) -> u32
+    requires { ⌜ Valid (now cart) × (getD (now cart) idAt 0 ≡ 0) ⌝ }
+    ensures { λ x. ⌜ (x, now (cart .entry), now (memory .entry), now (value .exit))
+        ≡ reads address (now (cart .entry)) (now (memory .entry)) (now (value .entry)) ⌝ }
+{
+    let kind = c_record::kind_in(cart);
+    if memory.len() != kind::memory_size(kind) {
+        return 3;
+    }
+    *value = byte_step::shown_byte(kind, c_record::flash_in(cart), memory, address) as u32;
+    0
+}
+
 pub fn save_read(cart: &RecordBytes, memory: &[u8], address: u32, value: &mut u32) -> u32
     ensures { λ x. ⌜ (x, now (cart .entry), now (memory .entry), now (value .exit))
         ≡ reads address (now (cart .entry)) (now (memory .entry)) (now (value .entry)) ⌝ }
@@ -45,10 +61,10 @@ pub fn save_read(cart: &RecordBytes, memory: &[u8], address: u32, value: &mut u3
     if !quick_tests::known(cart) {
         return read_any(cart, memory, address, value);
     }
-    if !quick_tests::bytes_usual(cart) {
+    if !quick_tests::bytes_usual(cart, 0) {
         return read_any(cart, memory, address, value);
     }
-    read_valid(cart, memory, address, value)
+    read_shown(cart, memory, address, value)
 }
 
 // The record is updated first, so that nothing stays live across an erase.
@@ -88,7 +104,7 @@ pub fn save_write(cart: &mut RecordBytes, memory: &mut [u8], address: u32, value
     if !quick_tests::known(cart) {
         return write_any(cart, memory, address, value);
     }
-    if !quick_tests::bytes_usual(cart) {
+    if !quick_tests::bytes_usual(cart, 1) {
         return write_any(cart, memory, address, value);
     }
     write_valid(cart, memory, address, value)

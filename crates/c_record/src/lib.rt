@@ -20,28 +20,29 @@ pub use outward::put_width;
 pub use outward::record_bytes;
 ghost use mathlib.Core.Path.{_≡_};
 ghost use mathlib.Core.Bool.{true};
+ghost use Prim.Native.Nat.{_≤_};
 ghost use lib.ListN.{length};
 ghost use Rattle.kind.specs.Kind.{kindOf};
 ghost use Rattle.part.specs.Part.{numberFits};
 ghost use Rattle.c_record.specs.RecordBytes.{recordSize, isRecord, Valid};
 
-// Whether a part's number fits a kind's, by comparisons: the table of sizes would be built in every call.
+// Whether a part's number fits a kind's. The named parts that do, by eight times the part and the kind, of which the
+// compiler makes one test; the table of sizes would be built in every call.
 pub fn part_allowed(part: u8, kind: u8) -> bool
+    requires { ⌜ kind ≤ 5 ⌝ }
     ensures { λ b. ⌜ b ≡ numberFits part (kindOf kind) ⌝ }
 {
     if part == 0 {
         return true;
     }
-    if kind == 2 {
-        return part <= 3;
+    match part as u32 * 8 + kind as u32 {
+        10 => true,
+        18 => true,
+        26 => true,
+        35 => true,
+        43 => true,
+        _ => false,
     }
-    if kind != 3 {
-        return false;
-    }
-    if part <= 3 {
-        return false;
-    }
-    part <= 5
 }
 
 // Question 2, of bytes.

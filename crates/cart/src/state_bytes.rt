@@ -115,7 +115,8 @@ pub fn chip_of(b: &[u8]) -> ChipRecord
     }
 }
 
-// Questions 7 to 12, about the fields: the first number that applies, or 0.
+// Questions 7 to 12, about the fields: the first number that applies, or 0. A count that its phase allows is below 64, so
+// that the limit is asked first.
 pub fn field_questions(b: &[u8]) -> u8
     requires { ⌜ length (now b) ≡ stateSize ⌝ }
     ensures { λ r. ⌜ r ≡ asked (fieldQuestions (now (b .entry))) ⌝ }
@@ -133,7 +134,6 @@ pub fn field_questions(b: &[u8]) -> u8
         return 10;
     }
     if !places_allowed(
-        b[layout::COUNT],
         lists::low16(b[layout::BLOCK], b[layout::BLOCK + 1]),
         b[layout::PLACE],
     ) {
@@ -146,6 +146,9 @@ pub fn field_questions(b: &[u8]) -> u8
         )
     {
         return 0;
+    }
+    if 64 < b[layout::COUNT] {
+        return 11;
     }
     12
 }
@@ -162,12 +165,9 @@ fn flags_allowed(bank: u8, id: u8, large: u8) -> bool
     large <= 1
 }
 
-fn places_allowed(count: u8, block: u16, place: u8) -> bool
-    ensures { λ r. ⌜ r ≡ (leb count 64 && leb block 1023 && leb place 67) ⌝ }
+fn places_allowed(block: u16, place: u8) -> bool
+    ensures { λ r. ⌜ r ≡ (leb block 1023 && leb place 67) ⌝ }
 {
-    if 64 < count {
-        return false;
-    }
     if 1023 < block {
         return false;
     }

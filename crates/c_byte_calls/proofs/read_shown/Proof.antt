@@ -1,0 +1,41 @@
+-- `c_byte_calls::read_shown` meets its contract. Assumes nothing.
+use mathlib.Core.Path.{sym, ap, _∙_}
+use Rattle.kind.specs.Kind.{memorySize}
+use Rattle.part.specs.declared.Part.the-variants.{Usual}
+use Rattle.byte_step.specs.ByteStep.{readByte, outOfId}
+use Rattle.byte_step.proofs.Shown.{shown}
+use Rattle.c_record.specs.RecordBytes.{cartOf}
+use Rattle.c_byte_calls.proofs.ByteCalls.{id-off, read-no, read-yes}
+use borrow.Author.Needs.{needs}
+use Rattle.c_byte_calls.proofs.read_shown.Statement.{statement}
+use Rattle.c_byte_calls.proofs.read_shown.Tie as tie
+
+returns : tie.Need-returns
+returns c =
+    let s = c .before .before .before .before in
+    let e = c .before .memory-size .ensures ∙ ap memorySize (c .before .before .kind-in .ensures) in
+    read-no (s .args .cart .now) (s .args .memory .now) (s .pre .0) (λ z. c .if1 .taken (z ∙ sym e)) (s .args .address) (s .args .value .now)
+
+returns-2 : tie.Need-returns-2
+returns-2 c =
+    let q = c .before .before in
+    let k = q .before .before .kind-in in
+    let s = q .before .before .before .before in
+    let r = s .args .cart .now in
+    let m = s .args .memory .now in
+    read-yes r m (s .pre .0) (q .if1 .left ∙ q .before .memory-size .ensures ∙ ap memorySize (k .ensures)) (s .args .address) (s .args .value .now) _
+    (c .shown-byte .ensures
+    ∙ (λ i. readByte (k .ensures i) Usual (outOfId (c .before .flash-in .ensures i)) m (s .args .address))
+    ∙ shown (cartOf r .kind) (cartOf r .part) (cartOf r .chip .flash) m (s .args .address) (id-off r (s .pre .1)))
+
+pub read-shown-spec : {M : Type 1} → statement M
+read-shown-spec =
+    tie.close
+    (tie.spec
+    (λ c κs. search needs)
+    (λ c κs. search needs)
+    returns
+    (λ c κs. search needs)
+    (λ c κs. search needs)
+    (λ c. search needs)
+    returns-2)
