@@ -61,8 +61,11 @@ pub fn save_read(cart: &RecordBytes, memory: &[u8], address: u32, value: &mut u3
     if !quick_tests::known(cart) {
         return read_any(cart, memory, address, value);
     }
-    if !quick_tests::bytes_usual(cart, 0) {
+    if !quick_tests::bytes_usual(cart) {
         return read_any(cart, memory, address, value);
+    }
+    if cart[layout::ID_MODE] != 0 {
+        return read_valid(cart, &memory[..], address, value);
     }
     read_shown(cart, memory, address, value)
 }
@@ -104,7 +107,7 @@ pub fn save_write(cart: &mut RecordBytes, memory: &mut [u8], address: u32, value
     if !quick_tests::known(cart) {
         return write_any(cart, memory, address, value);
     }
-    if !quick_tests::bytes_usual(cart, 1) {
+    if !quick_tests::bytes_usual(cart) {
         return write_any(cart, memory, address, value);
     }
     write_valid(cart, memory, address, value)

@@ -34,10 +34,10 @@ pub fn known(cart: &RecordBytes) -> bool
     known_in(&cart[..])
 }
 
-// An ID mode of at most 0 or 1, and the serial chip at rest.
-fn serial_rests(bytes: &[u8], most: u64) -> bool
-    requires { ⌜ (length (now bytes) ≡ recordSize) × (most ≤ 1) ⌝ }
-    ensures { λ b. ⌜ (b ≡ true → (getD (now (bytes .entry)) idAt 0 ≤ most)
+// No ID mode but 0 or 1, and the serial chip at rest.
+fn serial_rests(bytes: &[u8]) -> bool
+    requires { ⌜ length (now bytes) ≡ recordSize ⌝ }
+    ensures { λ b. ⌜ (b ≡ true → (getD (now (bytes .entry)) idAt 0 ≤ 1)
         × SerialRests (now (bytes .entry))) ⌝ }
 {
     lists::low64(
@@ -54,14 +54,14 @@ fn serial_rests(bytes: &[u8], most: u64) -> bool
             bytes[layout::PLACE],
         ),
     )
-        <= most
+        <= 1
 }
 
 // The state is asked before what the read goes on with is loaded: later, no register is free for its two comparisons.
-fn bytes_usual_in(bytes: &[u8], most: u64) -> bool
-    requires { ⌜ (length (now bytes) ≡ recordSize) × (most ≤ 1) ⌝ }
+fn bytes_usual_in(bytes: &[u8]) -> bool
+    requires { ⌜ length (now bytes) ≡ recordSize ⌝ }
     ensures { λ b. ⌜ (b ≡ true → isKnown (now (bytes .entry)) ≡ true
-        → (isRecord (now (bytes .entry)) ≡ true) × (getD (now (bytes .entry)) idAt 0 ≤ most)) ⌝ }
+        → isRecord (now (bytes .entry)) ≡ true) ⌝ }
 {
     if 1 < bytes[layout::DIRTY] {
         return false;
@@ -72,16 +72,15 @@ fn bytes_usual_in(bytes: &[u8], most: u64) -> bool
     if 1 < bytes[layout::BANK] {
         return false;
     }
-    serial_rests(bytes, most)
+    serial_rests(bytes)
 }
 
-// For the byte calls: the serial chip is at rest, and the ID mode is at most 0 or 1.
-pub fn bytes_usual(cart: &RecordBytes, most: u64) -> bool
-    requires { ⌜ most ≤ 1 ⌝ }
+// For the byte calls: the serial chip is at rest.
+pub fn bytes_usual(cart: &RecordBytes) -> bool
     ensures { λ b. ⌜ (b ≡ true → isKnown (now (cart .entry)) ≡ true
-        → (isRecord (now (cart .entry)) ≡ true) × (getD (now (cart .entry)) idAt 0 ≤ most)) ⌝ }
+        → isRecord (now (cart .entry)) ≡ true) ⌝ }
 {
-    bytes_usual_in(&cart[..], most)
+    bytes_usual_in(&cart[..])
 }
 
 // The flash chip is at rest, and the serial chip's fields are allowed, phase and count left out.

@@ -1,16 +1,21 @@
 -- `c_byte_calls::save_read` meets its contract. Assumes nothing.
 use mathlib.Core.Path.{refl}
-use native.Mathlib.Omega.{arith}
 use Rattle.lists.proofs.Bools.{granted}
 use borrow.Author.Needs.{needs}
 use Rattle.c_byte_calls.proofs.save_read.Statement.{statement}
 use Rattle.c_byte_calls.proofs.save_read.Tie as tie
 
+read-valid-requires : tie.Need-read-valid-requires
+read-valid-requires c κs =
+    let q = c .before .before .before in
+    let k = q .before .before .before .known .ensures in
+    k .1 (q .before .bytes-usual .ensures (granted _ refl (q .if2 .left)) (granted _ (k .0) (q .before .before .if1 .left)))
+
 read-shown-requires : tie.Need-read-shown-requires
 read-shown-requires c κs =
-    let k = c .before .before .before .before .known .ensures in
-    let u = c .before .before .bytes-usual .ensures (granted _ refl (c .before .if2 .left)) (granted _ (k .0) (c .before .before .before .if1 .left)) in
-    (k .1 (u .0), omega (arith, u .1))
+    let q = c .before .before .before in
+    let k = q .before .before .before .known .ensures in
+    (k .1 (q .before .bytes-usual .ensures (granted _ refl (q .if2 .left)) (granted _ (k .0) (q .before .before .if1 .left))), c .before .if3 .left)
 
 pub save-read-spec : {M : Type 1} → statement M
 save-read-spec =
@@ -21,6 +26,9 @@ save-read-spec =
     (λ c. search needs)
     (λ c κs. search needs)
     (λ c κs. search needs)
+    (λ c. search needs)
+    (λ c. search needs)
+    read-valid-requires
     (λ c. search needs)
     read-shown-requires
     (λ c. search needs))

@@ -1,5 +1,4 @@
 use mathlib.Core.Path.{refl, sym, _∙_}
-use native.Mathlib.Omega.{arith}
 use Rattle.lists.proofs.Bools.{granted}
 use Rattle.quick_tests.proofs.QuickTests.{never, rests-record}
 use borrow.Author.Needs.{needs}
@@ -20,11 +19,8 @@ returns-4 c = λ e h.
     let s = c .serial-rests .ensures e in
     let start = c .before .before .before .before .before .before .before .before .before in
     let state = sym (c .before .before .before .before .state-allowed .ensures) ∙ granted _ refl (c .before .before .before .if2 .left) in
-    (
-      rests-record (start .args .bytes .now) (start .pre .0) (c .before .before .before .before .before .before .if1 .left)
-      (record { state = state; bank = c .before .if3 .left; id = omega (arith, s .0, start .pre .1) }) (s .1) h,
-      s .0,
-    )
+    rests-record (start .args .bytes .now) (start .pre) (c .before .before .before .before .before .before .if1 .left)
+    (record { state = state; bank = c .before .if3 .left; id = s .0 }) (s .1) h
 
 pub bytes-usual-in-spec : {M : Type 1} → statement M
 bytes-usual-in-spec =
