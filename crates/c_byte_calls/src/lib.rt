@@ -6,9 +6,8 @@ use c_record::RecordBytes;
 use c_record::layout;
 use memory::NO_FILE;
 ghost use mathlib.Core.Path.{_≡_};
-ghost use lib.ListN.{getD};
-ghost use Rattle.c_record.specs.RecordBytes.{Valid};
-ghost use Rattle.c_record.specs.Fields.{idAt};
+ghost use mathlib.Core.Bool.{true, false};
+ghost use Rattle.c_record.specs.RecordBytes.{cartOf, Valid};
 ghost use Rattle.c_record.specs.Calls.{reads, writes};
 
 fn read_valid(cart: &RecordBytes, memory: &[u8], address: u32, value: &mut u32) -> u32
@@ -40,9 +39,26 @@ fn read_any(cart: &RecordBytes, memory: &[u8], address: u32, value: &mut u32) ->
     read_valid(cart, &memory[..], address, value)
 }
 
-// Outside ID mode: the tables of ID words would be built in every read.
+// In ID mode, on a flash kind.
+fn read_id(cart: &RecordBytes, memory: &[u8], address: u32, value: &mut u32) -> u32
+    requires { ⌜ Valid (now cart) × (cartOf (now cart) .chip .flash .id ≡ true) ⌝ }
+    ensures { λ x. ⌜ (x, now (cart .entry), now (memory .entry), now (value .exit))
+        ≡ reads address (now (cart .entry)) (now (memory .entry)) (now (value .entry)) ⌝ }
+{
+    let kind = c_record::kind_in(cart);
+    if !kind::is_flash(kind) {
+        return read_any(cart, &memory[..], address, value);
+    }
+    if memory.len() != kind::memory_size(kind) {
+        return 3;
+    }
+    *value = flash::id_byte(part::id_word(c_record::part_in(cart), kind), address) as u32;
+    0
+}
+
+// Outside ID mode: the tables of ID words would make every read longer.
 fn read_shown(cart: &RecordBytes, memory: &[u8], address: u32, value: &mut u32) -> u32
-    requires { ⌜ Valid (now cart) × (getD (now cart) idAt 0 ≡ 0) ⌝ }
+    requires { ⌜ Valid (now cart) × (cartOf (now cart) .chip .flash .id ≡ false) ⌝ }
     ensures { λ x. ⌜ (x, now (cart .entry), now (memory .entry), now (value .exit))
         ≡ reads address (now (cart .entry)) (now (memory .entry)) (now (value .entry)) ⌝ }
 {
@@ -64,8 +80,9 @@ pub fn save_read(cart: &RecordBytes, memory: &[u8], address: u32, value: &mut u3
     if !quick_tests::bytes_usual(cart) {
         return read_any(cart, memory, address, value);
     }
-    if cart[layout::ID_MODE] != 0 {
-        return read_valid(cart, &memory[..], address, value);
+    let flash = c_record::flash_in(cart);
+    if flash.id {
+        return read_id(cart, memory, address, value);
     }
     read_shown(cart, memory, address, value)
 }

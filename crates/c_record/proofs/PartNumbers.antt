@@ -62,7 +62,15 @@ above-3 p k e z a b c = omega arith
 above-5 : (p k : ℕ) → k ≡ 3 → 3 < p → p * 8 + k ≢ 35 → p * 8 + k ≢ 43 → 5 < p
 above-5 p k e l a b = omega arith
 
--- by eight times the part and the kind: those that fit
+-- by eight times the part and the kind: the usual part
+pub usual-at : (p k : ℕ) → p * 8 + k ≤ 5 → numberFits p (kindOf k) ≡ true
+unfolding partOf partFits
+usual-at p k h = let z : p ≡ 0 = omega arith in rw z
+
+pub named : (p k : ℕ) → k ≤ 5 → 5 < p * 8 + k → p ≢ 0
+named p k h l z = omega arith
+
+-- the named ones that fit
 module _ (p k : ℕ) (h : k ≤ 5) where
   pub fits-at : (q j : ℕ) → j ≤ 5 → p * 8 + k ≡ q * 8 + j → numberFits p (kindOf k) ≡ numberFits q (kindOf j)
   fits-at q j l e =

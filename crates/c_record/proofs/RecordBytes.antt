@@ -80,17 +80,17 @@ yes r h =
     let l : Bool = imageLength (lowValue (take 4 r)) in
     let p : Bool = numberFits (getD r 24 0) (kindOf (getD r 4 0)) in
     let n : ℕ = asked (fieldQuestions (chipIn r)) in
-    let skflp = and-left (s && k && f && l && p) (eqb n 0) h in
-    let skfl = and-left (s && k && f && l) p skflp in
-    let skf = and-left (s && k && f) l skfl in
-    let sk = and-left (s && k) f skf in
+    let skpfl = and-left (s && k && p && f && l) (eqb n 0) h in
+    let skpf = and-left (s && k && p && f) l skpfl in
+    let skp = and-left (s && k && p) f skpf in
+    let sk = and-left (s && k) p skp in
     record {
       kindOk = and-right s k sk;
-      flagOk = and-right (s && k) f skf;
-      lenOk = and-right (s && k && f) l skfl;
-      partOk = and-right (s && k && f && l) p skflp;
+      flagOk = and-right (s && k && p) f skpf;
+      lenOk = and-right (s && k && p && f) l skpfl;
+      partOk = and-right (s && k) p skp;
       sizeOk = eqb-true (length r) 25 (and-left s k sk);
-      chipOk = eqb-true n 0 (and-right (s && k && f && l && p) (eqb n 0) h);
+      chipOk = eqb-true n 0 (and-right (s && k && p && f && l) (eqb n 0) h);
     }
 
 image-lt : (n : ℕ) → imageLength n ≡ true → n < 256 ^ 4
@@ -170,26 +170,21 @@ valid-record r b h = let y = read r (are-bytes r b) h in record { yes = h; allow
 
 -- the questions of a record's bytes, up to the first no
 module _ (r : List ℕ) (n : length r ≡ 25) where
-  pub no-kind : 5 < getD r 4 0 → false ≡ isRecord r
-  unfolding isRecord
-  no-kind k = rw (n, lt-leb (getD r 4 0) 5 k)
+  abbrev known : Bool
+  known = leb (getD r 4 0) 5 && numberFits (getD r 24 0) (kindOf (getD r 4 0))
 
-  pub no-flag : getD r 4 0 ≤ 5 → 1 < getD r 5 0 → false ≡ isRecord r
+  pub no-part : known ≡ false → false ≡ isRecord r
   unfolding isRecord
-  no-flag k f = rw (n, le-leb (getD r 4 0) 5 k, lt-leb (getD r 5 0) 1 f)
+  no-part p = rw (n, p)
 
-  pub no-length : getD r 4 0 ≤ 5 → getD r 5 0 ≤ 1 → imageLength (lowValue (take 4 r)) ≡ false → false ≡ isRecord r
+  pub no-flag : known ≡ true → 1 < getD r 5 0 → false ≡ isRecord r
   unfolding isRecord
-  no-length k f l = rw (n, le-leb (getD r 4 0) 5 k, le-leb (getD r 5 0) 1 f, l)
+  no-flag p f = rw (n, p, lt-leb (getD r 5 0) 1 f)
 
-  pub no-part : getD r 4 0 ≤ 5 → getD r 5 0 ≤ 1 → imageLength (lowValue (take 4 r)) ≡ true
-      → numberFits (getD r 24 0) (kindOf (getD r 4 0)) ≡ false → false ≡ isRecord r
+  pub no-length : known ≡ true → getD r 5 0 ≤ 1 → imageLength (lowValue (take 4 r)) ≡ false → false ≡ isRecord r
   unfolding isRecord
-  no-part k f l p = rw (n, le-leb (getD r 4 0) 5 k, le-leb (getD r 5 0) 1 f, l, p)
+  no-length p f l = rw (n, p, le-leb (getD r 5 0) 1 f, l)
 
-  pub by-chip : {x : ℕ} → getD r 4 0 ≤ 5 → getD r 5 0 ≤ 1 → imageLength (lowValue (take 4 r)) ≡ true
-      → numberFits (getD r 24 0) (kindOf (getD r 4 0)) ≡ true
-      → x ≡ asked (fieldQuestions (chipIn r))
-      → eqb x 0 ≡ isRecord r
+  pub by-chip : {x : ℕ} → known ≡ true → getD r 5 0 ≤ 1 → imageLength (lowValue (take 4 r)) ≡ true → x ≡ asked (fieldQuestions (chipIn r)) → eqb x 0 ≡ isRecord r
   unfolding isRecord
-  by-chip k f l p e = rw (n, le-leb (getD r 4 0) 5 k, le-leb (getD r 5 0) 1 f, l, p, e)
+  by-chip p f l e = rw (n, p, le-leb (getD r 5 0) 1 f, l, e)

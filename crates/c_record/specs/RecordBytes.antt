@@ -55,9 +55,9 @@ unfoldable pub isRecord : List ℕ → Bool
 isRecord r =
     eqb (length r) recordSize
     && leb (getD r kindAt 0) 5
+    && numberFits (getD r partAt 0) (kindOf (getD r kindAt 0))
     && leb (getD r dirtyAt 0) 1
     && imageLength (lowValue (take 4 r))
-    && numberFits (getD r partAt 0) (kindOf (getD r kindAt 0))
     && eqb (asked (fieldQuestions (chipIn r))) 0
 
 -- what is known of bytes for which question 2 is answered yes

@@ -19,23 +19,26 @@ pub use outward::put_shift;
 pub use outward::put_width;
 pub use outward::record_bytes;
 ghost use mathlib.Core.Path.{_≡_};
-ghost use mathlib.Core.Bool.{true};
-ghost use Prim.Native.Nat.{_≤_};
+ghost use mathlib.Core.Bool.{true, _&&_};
+ghost use lib.Dec.{leb};
 ghost use lib.ListN.{length};
 ghost use Rattle.kind.specs.Kind.{kindOf};
 ghost use Rattle.part.specs.Part.{numberFits};
 ghost use Rattle.c_record.specs.RecordBytes.{recordSize, isRecord, Valid};
 
-// Whether a part's number fits a kind's. The named parts that do, by eight times the part and the kind, of which the
-// compiler makes one test; the table of sizes would be built in every call.
-pub fn part_allowed(part: u8, kind: u8) -> bool
-    requires { ⌜ kind ≤ 5 ⌝ }
-    ensures { λ b. ⌜ b ≡ numberFits part (kindOf kind) ⌝ }
+// A kind's number, and that of a part which fits it, in eight times the part and the kind: the usual part at 0 to 5, the
+// named ones at five places, of which the compiler makes one test. The table of sizes would be built in every call.
+pub fn kind_and_part(kind: u8, part: u8) -> bool
+    ensures { λ b. ⌜ b ≡ (leb kind 5 && numberFits part (kindOf kind)) ⌝ }
 {
-    if part == 0 {
+    let place = part as u32 * 8 + kind as u32;
+    if place <= 5 {
         return true;
     }
-    match part as u32 * 8 + kind as u32 {
+    if 5 < kind {
+        return false;
+    }
+    match place {
         10 => true,
         18 => true,
         26 => true,
@@ -51,16 +54,13 @@ fn valid(bytes: &[u8]) -> bool
     ensures { λ b. ⌜ b ≡ isRecord (now (bytes .entry)) ⌝ }
     ensures { λ _. ⌜ (isRecord (now (bytes .entry)) ≡ true → Valid (now (bytes .entry))) ⌝ }
 {
-    if 5 < bytes[layout::KIND] {
+    if !kind_and_part(bytes[layout::KIND], bytes[layout::PART]) {
         return false;
     }
     if 1 < bytes[layout::DIRTY] {
         return false;
     }
     if !image::image_length(lists::low32(bytes[0], bytes[1], bytes[2], bytes[3]) as usize) {
-        return false;
-    }
-    if !part_allowed(bytes[layout::PART], bytes[layout::KIND]) {
         return false;
     }
     cart::field_questions(&bytes[layout::CHIP..layout::PART]) == 0

@@ -30,18 +30,17 @@ pub never : {P : Type 0} → false ≡ true → P
 never e = absurd (true≢false (sym e))
 
 -- kind, part and image length
-pub unknown-kind : (r : List ℕ) → 5 < getD r 4 0 → false ≡ isKnown r
-unfolding isKnown
-unknown-kind r k = rw (lt-leb (getD r 4 0) 5 k)
+module _ (r : List ℕ) where
+  abbrev fitted : Bool
+  fitted = leb (getD r 4 0) 5 && numberFits (getD r 24 0) (kindOf (getD r 4 0))
 
-pub unknown-part : (r : List ℕ) → getD r 4 0 ≤ 5 → numberFits (getD r 24 0) (kindOf (getD r 4 0)) ≡ false → false ≡ isKnown r
-unfolding isKnown
-unknown-part r k p = rw (le-leb (getD r 4 0) 5 k, p)
+  pub unknown-part : fitted ≡ false → false ≡ isKnown r
+  unfolding isKnown
+  unknown-part p = rw p
 
-pub known-part : (r : List ℕ) {b : Bool} → getD r 4 0 ≤ 5 → numberFits (getD r 24 0) (kindOf (getD r 4 0)) ≡ true
-    → b ≡ imageLength (lowValue (take 4 r)) → b ≡ isKnown r
-unfolding isKnown
-known-part r k p e = rw (le-leb (getD r 4 0) 5 k, p) e
+  pub known-part : {b : Bool} → fitted ≡ true → b ≡ imageLength (lowValue (take 4 r)) → b ≡ isKnown r
+  unfolding isKnown
+  known-part p e = rw p e
 
 -- the count
 w-positive : (width : ℕ) (large : Bool) → 0 < w width large
@@ -118,8 +117,7 @@ usual-record r f k h =
     let a : Bool = leb (getD r 4 0) 5 in
     let p : Bool = numberFits (getD r 24 0) (kindOf (getD r 4 0)) in
     let b : Bool = imageLength (lowValue (take 4 r)) in
-    let g = and-left (a && p) b h in
-    rw (f .size, and-left a p g, le-leb (getD r 5 0) 1 (f .flag), and-right (a && p) b h, and-right a p g, chip-usual r f k) refl
+    rw (f .size, and-left (a && p) b h, le-leb (getD r 5 0) 1 (f .flag), and-right (a && p) b h, chip-usual r f k) refl
 
 -- the serial chip at rest
 pub rests-record : (r : List ℕ) → length r ≡ 25 → getD r 5 0 ≤ 1 → FlashUsual r → SerialRests r → isKnown r ≡ true → isRecord r ≡ true

@@ -17,10 +17,7 @@ fn known_in(bytes: &[u8]) -> bool
     ensures { λ b. ⌜ b ≡ isKnown (now (bytes .entry)) ⌝ }
     ensures { λ _. ⌜ (isRecord (now (bytes .entry)) ≡ true → Valid (now (bytes .entry))) ⌝ }
 {
-    if 5 < bytes[layout::KIND] {
-        return false;
-    }
-    if !c_record::part_allowed(bytes[layout::PART], bytes[layout::KIND]) {
+    if !c_record::kind_and_part(bytes[layout::KIND], bytes[layout::PART]) {
         return false;
     }
     image::image_length(lists::low32(bytes[0], bytes[1], bytes[2], bytes[3]) as usize)

@@ -5,7 +5,7 @@ use Rattle.part.specs.declared.Part.the-variants.{Usual}
 use Rattle.byte_step.specs.ByteStep.{readByte, outOfId}
 use Rattle.byte_step.proofs.Shown.{shown}
 use Rattle.c_record.specs.RecordBytes.{cartOf}
-use Rattle.c_byte_calls.proofs.ByteCalls.{id-off, read-no, read-yes}
+use Rattle.c_byte_calls.proofs.ByteCalls.{read-no, read-yes}
 use borrow.Author.Needs.{needs}
 use Rattle.c_byte_calls.proofs.read_shown.Statement.{statement}
 use Rattle.c_byte_calls.proofs.read_shown.Tie as tie
@@ -26,7 +26,7 @@ returns-2 c =
     read-yes r m (s .pre .0) (q .if1 .left ∙ q .before .memory-size .ensures ∙ ap memorySize (k .ensures)) (s .args .address) (s .args .value .now) _
     (c .shown-byte .ensures
     ∙ (λ i. readByte (k .ensures i) Usual (outOfId (c .before .flash-in .ensures i)) m (s .args .address))
-    ∙ shown (cartOf r .kind) (cartOf r .part) (cartOf r .chip .flash) m (s .args .address) (id-off r (s .pre .1)))
+    ∙ shown (cartOf r .kind) (cartOf r .part) (cartOf r .chip .flash) m (s .args .address) (s .pre .1))
 
 pub read-shown-spec : {M : Type 1} → statement M
 read-shown-spec =
