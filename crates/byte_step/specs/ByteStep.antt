@@ -24,10 +24,6 @@ readByte Flash128 p f m a = flashRead (idWord p Flash128) f m a
 readByte Eeprom512 p f m a = getD m (a % 8192) 0
 readByte Eeprom8k p f m a = getD m (a % 8192) 0
 
--- the chip as if it were not in ID mode
-abbrev pub outOfId : Flash → Flash
-outOfId f = record { state = f .state; bank = f .bank; id = false }
-
 -- what a write leads to: the flash chip, whether the changed flag is set, and what is stored
 abbrev pub stepTo : Flash → Bool → Store → ByteStep
 stepTo flash sets store = record { flash = flash; sets = sets; store = store }

@@ -8,10 +8,9 @@ ghost use mathlib.Core.Path.{_≡_};
 ghost use Prim.Native.Nat.{_<_};
 ghost use lib.ListN.{length};
 ghost use Rattle.kind.specs.Kind.{memorySize};
-ghost use Rattle.part.specs.declared.Part.the-variants.{Usual};
 ghost use Rattle.part.specs.Part.{idWord};
 ghost use Rattle.flash.specs.Flash.{flashRead, flashWrite};
-ghost use Rattle.byte_step.specs.ByteStep.{stepTo, ofFlash, readByte, outOfId, writeStep};
+ghost use Rattle.byte_step.specs.ByteStep.{stepTo, ofFlash, readByte, writeStep};
 
 // What a written byte leads to: the flash chip, whether the changed flag is set, and what is to be stored.
 pub struct ByteStep {
@@ -30,31 +29,15 @@ fn read_flash(kind: SaveType, part: Part, flash: Flash, memory: &[u8], address: 
     flash::shown_byte(flash, memory, address)
 }
 
-// A read outside ID mode, in which no kind looks at the part.
-pub fn shown_byte(kind: SaveType, flash: Flash, memory: &[u8], address: u32) -> u8
-    requires { ⌜ length (now memory) ≡ memorySize kind ⌝ }
-    ensures { λ r. ⌜ r ≡ readByte kind Usual (outOfId flash) (now (memory .entry)) address ⌝ }
-{
-    match kind {
-        SaveType::None => 0xFF,
-        SaveType::Sram => memory[(address % 32768) as usize],
-        SaveType::Flash64 | SaveType::Flash128 => flash::shown_byte(flash, memory, address),
-        SaveType::Eeprom512 | SaveType::Eeprom8k => memory[(address % 8192) as usize],
-    }
-}
-
 pub fn read_byte(kind: SaveType, part: Part, flash: Flash, memory: &[u8], address: u32) -> u8
     requires { ⌜ length (now memory) ≡ memorySize kind ⌝ }
     ensures { λ r. ⌜ r ≡ readByte kind part flash (now (memory .entry)) address ⌝ }
 {
     match kind {
+        SaveType::None => 0xFF,
+        SaveType::Sram => memory[(address % 32768) as usize],
         SaveType::Flash64 | SaveType::Flash128 => read_flash(kind, part, flash, memory, address),
-        SaveType::None | SaveType::Sram | SaveType::Eeprom512 | SaveType::Eeprom8k => shown_byte(
-            kind,
-            flash,
-            memory,
-            address,
-        ),
+        SaveType::Eeprom512 | SaveType::Eeprom8k => memory[(address % 8192) as usize],
     }
 }
 

@@ -1,19 +1,12 @@
 -- The byte calls on a valid record's bytes. Assumes nothing.
 use mathlib.Core.Path.{_≡_, sym, ap, _∙_}
 use mathlib.Core.Logic.{_≢_}
-use mathlib.Core.Bool.{true}
 use mathlib.Core.List.{List, []}
 use Prim.Native.Nat.{ℕ}
 use native.Mathlib.Omega.{arith}
 use lib.ListN.{length}
 use Rattle.memory.specs.Memory.{stored}
-use Rattle.kind.specs.declared.SaveType.{SaveType}
-use Rattle.kind.specs.declared.SaveType.the-variants.{None, Sram, Flash64, Flash128, Eeprom512, Eeprom8k}
-use Rattle.kind.specs.Kind.{memorySize, isFlash}
-use Rattle.part.specs.declared.Part.{Part}
-use Rattle.part.specs.Part.{idWord}
-use Rattle.flash.specs.declared.Flash.{Flash}
-use Rattle.flash.specs.Flash.{idByte}
+use Rattle.kind.specs.Kind.{memorySize}
 use Rattle.byte_step.specs.declared.ByteStep.{ByteStep}
 use Rattle.byte_step.specs.ByteStep.{readByte, writeStep}
 use Rattle.cart.specs.Calls.{saveRead, saveWrite, readSave, writeSave, questions, accepted}
@@ -23,16 +16,6 @@ use Rattle.c_record.specs.AtExit.{plain, valueAt}
 use Rattle.c_record.specs.Calls.{reads, writes}
 use Rattle.c_record.proofs.FieldBytes.{put-flash}
 use Rattle.c_record.proofs.Calls.{memory-no, memory-yes, refused, done}
-
--- a read in ID mode on a flash kind
-pub id-read : (k : SaveType) (p : Part) (f : Flash) (m : List ℕ) (a : ℕ) → isFlash k ≡ true → f .id ≡ true → idByte (idWord p k) a ≡ readByte k p f m a
-unfolding readByte
-id-read None p f m a h e = cc
-id-read Sram p f m a h e = cc
-id-read Flash64 p f m a h e = rw e
-id-read Flash128 p f m a h e = rw e
-id-read Eeprom512 p f m a h e = cc
-id-read Eeprom8k p f m a h e = cc
 
 module _ (r m : List ℕ) (v : Valid r) where
   -- question 3 is answered no

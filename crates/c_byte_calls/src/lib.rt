@@ -5,8 +5,9 @@
 use c_record::RecordBytes;
 use c_record::layout;
 use memory::NO_FILE;
+use part::Part;
 ghost use mathlib.Core.Path.{_≡_};
-ghost use mathlib.Core.Bool.{true, false};
+ghost use Rattle.part.specs.declared.Part.the-variants.{Usual};
 ghost use Rattle.c_record.specs.RecordBytes.{cartOf, Valid};
 ghost use Rattle.c_record.specs.Calls.{reads, writes};
 
@@ -39,26 +40,9 @@ fn read_any(cart: &RecordBytes, memory: &[u8], address: u32, value: &mut u32) ->
     read_valid(cart, &memory[..], address, value)
 }
 
-// In ID mode, on a flash kind.
-fn read_id(cart: &RecordBytes, memory: &[u8], address: u32, value: &mut u32) -> u32
-    requires { ⌜ Valid (now cart) × (cartOf (now cart) .chip .flash .id ≡ true) ⌝ }
-    ensures { λ x. ⌜ (x, now (cart .entry), now (memory .entry), now (value .exit))
-        ≡ reads address (now (cart .entry)) (now (memory .entry)) (now (value .entry)) ⌝ }
-{
-    let kind = c_record::kind_in(cart);
-    if !kind::is_flash(kind) {
-        return read_any(cart, &memory[..], address, value);
-    }
-    if memory.len() != kind::memory_size(kind) {
-        return 3;
-    }
-    *value = flash::id_byte(part::id_word(c_record::part_in(cart), kind), address) as u32;
-    0
-}
-
-// Outside ID mode: the tables of ID words would make every read longer.
-fn read_shown(cart: &RecordBytes, memory: &[u8], address: u32, value: &mut u32) -> u32
-    requires { ⌜ Valid (now cart) × (cartOf (now cart) .chip .flash .id ≡ false) ⌝ }
+// With the usual part, whose ID words are one table by the kind: short enough that the compiler puts it into `save_read`.
+fn read_usual(cart: &RecordBytes, memory: &[u8], address: u32, value: &mut u32) -> u32
+    requires { ⌜ Valid (now cart) × (cartOf (now cart) .part ≡ Usual) ⌝ }
     ensures { λ x. ⌜ (x, now (cart .entry), now (memory .entry), now (value .exit))
         ≡ reads address (now (cart .entry)) (now (memory .entry)) (now (value .entry)) ⌝ }
 {
@@ -66,7 +50,13 @@ fn read_shown(cart: &RecordBytes, memory: &[u8], address: u32, value: &mut u32) 
     if memory.len() != kind::memory_size(kind) {
         return 3;
     }
-    *value = byte_step::shown_byte(kind, c_record::flash_in(cart), memory, address) as u32;
+    *value = byte_step::read_byte(
+        kind,
+        Part::Usual,
+        c_record::flash_in(cart),
+        memory,
+        address,
+    ) as u32;
     0
 }
 
@@ -80,11 +70,7 @@ pub fn save_read(cart: &RecordBytes, memory: &[u8], address: u32, value: &mut u3
     if !quick_tests::bytes_usual(cart) {
         return read_any(cart, memory, address, value);
     }
-    let flash = c_record::flash_in(cart);
-    if flash.id {
-        return read_id(cart, memory, address, value);
-    }
-    read_shown(cart, memory, address, value)
+    read_usual(cart, memory, address, value)
 }
 
 // The record is updated first, so that nothing stays live across an erase.

@@ -14,8 +14,7 @@ use Rattle.part.specs.declared.Part.{Part}
 use Rattle.part.specs.declared.Part.the-variants.{Usual, Sst64, Macronix64, Panasonic64, Sanyo128, Macronix128}
 use Rattle.part.specs.Part.{partOf, partFits}
 use Rattle.flash.specs.declared.Flash.{Flash}
-use Rattle.byte_step.specs.ByteStep.{readByte}
-use Rattle.byte_step.proofs.Shown.{shown}
+use Rattle.byte_step.specs.ByteStep.{readByte, writeStep}
 use Rattle.eeprom.specs.Eeprom.{bitIn}
 use Rattle.cart.specs.Record.{State, Outcome, guarded, outcome, recordAllowed, freshCart, fresh, fromBytes}
 use Rattle.cart.specs.Calls.{Call, saveRead, saveWrite, eepromBeginDma, eepromWrite, eepromRead, loadSave, saveData, chipState, takeSaveDirty}
@@ -82,10 +81,16 @@ unfolding fresh freshCart
 fresh-part image p = refl
 
 -- a byte read looks at it in ID mode alone
-read-same : (kind : SaveType) (p q : Part) (f : Flash) (m : List ℕ) (a : ℕ) → f .id ≡ false → readByte kind p f m a ≡ readByte kind q f m a
-read-same kind p q f m a e = sym (shown kind p f m a e) ∙ shown kind q f m a e
-
 module _ (p : Part) (s : State) where
+  read-same : (kind : SaveType) (q : Part) (f : Flash) (m : List ℕ) (a : ℕ) → f .id ≡ false → readByte kind p f m a ≡ readByte kind q f m a
+  unfolding readByte
+  read-same None q f m a e = refl
+  read-same Sram q f m a e = refl
+  read-same Flash64 q f m a e = rw e
+  read-same Flash128 q f m a e = rw e
+  read-same Eeprom512 q f m a e = refl
+  read-same Eeprom8k q f m a e = refl
+
   file-same : (kind : SaveType) → fileOf kind (withPart p s) ≡ fileOf kind s
   unfolding fileOf
   file-same None = refl
@@ -122,7 +127,7 @@ module _ (p : Part) (s : State) where
   accepted-same : (c : Call) (d : List ℕ) → ((a : ℕ) → c ≡ saveRead a → s .cart .chip .flash .id ≡ false) → accepted c d (withPart p s) ≡ outcomeWith p (accepted c d s)
   unfolding accepted load readSave bitIn
   accepted-same (saveRead a) d n =
-      ap (λ (v : ℕ). outcome (v ∷ []) (withPart p s) d) (read-same (s .cart .kind) p (s .cart .part) (s .cart .chip .flash) (s .memory) a (n a refl))
+      ap (λ (v : ℕ). outcome (v ∷ []) (withPart p s) d) (read-same (s .cart .kind) (s .cart .part) (s .cart .chip .flash) (s .memory) a (n a refl))
   accepted-same (saveWrite a v) d n = ap (λ (t : State). outcome [] t d) (write-same (s .cart .kind) a v)
   accepted-same (eepromBeginDma words) d n = refl
   accepted-same (eepromWrite v) d n = refl

@@ -33,10 +33,6 @@ kindOf n =
 abbrev pub memorySize : SaveType → ℕ
 memorySize kind = byKind kind 0 32768 65536 131072 8192 8192
 
--- the kinds that have a flash chip
-abbrev pub isFlash : SaveType → Bool
-isFlash kind = byKind kind false false true true false false
-
 -- `uses_eeprom`
 abbrev pub usesEeprom : SaveType → Bool
 usesEeprom kind = byKind kind false false false false true true

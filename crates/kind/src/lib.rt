@@ -4,7 +4,7 @@ mod markers;
 
 pub use markers::detect_save_type;
 ghost use mathlib.Core.Path.{_≡_};
-ghost use Rattle.kind.specs.Kind.{kindNumber, kindOf, memorySize, isFlash, usesEeprom, windowStart};
+ghost use Rattle.kind.specs.Kind.{kindNumber, kindOf, memorySize, usesEeprom, windowStart};
 
 pub enum SaveType {
     None,
@@ -52,19 +52,6 @@ pub fn memory_size(kind: SaveType) -> usize
         SaveType::Flash128 => 131072,
         SaveType::Eeprom512 => 8192,
         SaveType::Eeprom8k => 8192,
-    }
-}
-
-pub fn is_flash(kind: SaveType) -> bool
-    ensures { λ r. ⌜ r ≡ isFlash kind ⌝ }
-{
-    match kind {
-        SaveType::None => false,
-        SaveType::Sram => false,
-        SaveType::Flash64 => true,
-        SaveType::Flash128 => true,
-        SaveType::Eeprom512 => false,
-        SaveType::Eeprom8k => false,
     }
 }
 

@@ -12,8 +12,8 @@ use Rattle.lists.specs.Lists.{lowValue}
 use Rattle.lists.specs.Questions.{asked}
 use Rattle.lists.proofs.Bools.{split, cases, and-left, and-right}
 use Rattle.image.specs.Image.{imageLength}
-use Rattle.kind.specs.Kind.{kindOf}
-use Rattle.part.specs.Part.{numberFits}
+use Rattle.part.specs.declared.Part.the-variants.{Usual}
+use Rattle.part.specs.Part.{partOf, partFits}
 use Rattle.flash.specs.Flash.{stateAllowed}
 use Rattle.eeprom.specs.declared.EepromPhase.{EepromPhase}
 use Rattle.eeprom.specs.declared.EepromPhase.the-variants.{Opcode, ReadAddress, WriteAddress, WriteData, ReadStop, WriteStop, Reading}
@@ -21,7 +21,7 @@ use Rattle.eeprom.specs.Eeprom.{widthAllowed, w, countLimit}
 use Rattle.eeprom.proofs.Sound.{limit-64}
 use Rattle.eeprom.proofs.Allowed.{w-le}
 use Rattle.cart.specs.ChipState.{phaseOf, fieldQuestions}
-use Rattle.c_record.specs.RecordBytes.{chipIn, isRecord}
+use Rattle.c_record.specs.RecordBytes.{chipIn, cartOf, isRecord}
 use Rattle.c_record.proofs.RecordBytes.{chip-at}
 use Rattle.quick_tests.specs.QuickTests.{isKnown, FlashUsual, FieldsUsual, SerialRests, CountAllowed}
 
@@ -31,16 +31,28 @@ never e = absurd (true≢false (sym e))
 
 -- kind, part and image length
 module _ (r : List ℕ) where
-  abbrev fitted : Bool
-  fitted = leb (getD r 4 0) 5 && numberFits (getD r 24 0) (kindOf (getD r 4 0))
-
-  pub unknown-part : fitted ≡ false → false ≡ isKnown r
+  pub unknown-kind : 5 < getD r 4 0 → false ≡ isKnown r
   unfolding isKnown
-  unknown-part p = rw p
+  unknown-kind k = rw (lt-leb (getD r 4 0) 5 k)
 
-  pub known-part : {b : Bool} → fitted ≡ true → b ≡ imageLength (lowValue (take 4 r)) → b ≡ isKnown r
+  pub unusual-part : getD r 4 0 ≤ 5 → getD r 24 0 ≢ 0 → false ≡ isKnown r
   unfolding isKnown
-  known-part p e = rw p e
+  unusual-part k p = rw (le-leb (getD r 4 0) 5 k, ne-eqb (getD r 24 0) 0 p)
+
+  pub usual-part : {b : Bool} → getD r 4 0 ≤ 5 → getD r 24 0 ≡ 0 → b ≡ imageLength (lowValue (take 4 r)) → b ≡ isKnown r
+  unfolding isKnown
+  usual-part k p e = rw (le-leb (getD r 4 0) 5 k, p) e
+
+  zero-part : isKnown r ≡ true → getD r 24 0 ≡ 0
+  unfolding isKnown
+  zero-part h =
+      let a : Bool = leb (getD r 4 0) 5 in
+      let p : Bool = eqb (getD r 24 0) 0 in
+      eqb-true (getD r 24 0) 0 (and-right a p (and-left (a && p) (imageLength (lowValue (take 4 r))) h))
+
+  pub known-usual : isKnown r ≡ true → cartOf r .part ≡ Usual
+  unfolding cartOf partOf
+  known-usual h = rw (zero-part h) refl
 
 -- the count
 w-positive : (width : ℕ) (large : Bool) → 0 < w width large
@@ -112,12 +124,12 @@ chip-usual r f k =
     (rw (le-leb (getD r 11 0) 6 (k .0), f .flash .state, le-leb (getD r 7 0) 1 (f .flash .bank), le-leb (getD r 8 0) 1 (f .flash .id), le-leb (getD r 10 0) 1 (f .large), f .width, le-leb (getD r 12 0) 64 (omega (arith, l)), le-leb (getD r 13 0 + 256 * getD r 14 0) 1023 (f .block), le-leb (getD r 15 0) 67 (f .place), lt-ltb (getD r 12 0) _ (k .1)) refl)
 
 pub usual-record : (r : List ℕ) → FieldsUsual r → CountAllowed (getD r 11 0) (getD r 12 0) (getD r 9 0) (eqb (getD r 10 0) 1) → isKnown r ≡ true → isRecord r ≡ true
-unfolding isKnown isRecord
+unfolding isKnown isRecord partOf partFits
 usual-record r f k h =
     let a : Bool = leb (getD r 4 0) 5 in
-    let p : Bool = numberFits (getD r 24 0) (kindOf (getD r 4 0)) in
+    let p : Bool = eqb (getD r 24 0) 0 in
     let b : Bool = imageLength (lowValue (take 4 r)) in
-    rw (f .size, and-left (a && p) b h, le-leb (getD r 5 0) 1 (f .flag), and-right (a && p) b h, chip-usual r f k) refl
+    rw (f .size, and-left a p (and-left (a && p) b h), zero-part r h, le-leb (getD r 5 0) 1 (f .flag), and-right (a && p) b h, chip-usual r f k) refl
 
 -- the serial chip at rest
 pub rests-record : (r : List ℕ) → length r ≡ 25 → getD r 5 0 ≤ 1 → FlashUsual r → SerialRests r → isKnown r ≡ true → isRecord r ≡ true

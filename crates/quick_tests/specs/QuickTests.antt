@@ -3,22 +3,21 @@ use mathlib.Core.Path.{_≡_}
 use mathlib.Core.Bool.{Bool, true, _&&_}
 use mathlib.Core.List.{List}
 use Prim.Native.Nat.{ℕ, _+_, _*_, _≤_, _<_}
-use lib.Dec.{leb}
+use lib.Dec.{leb, eqb}
 use lib.ListN.{length, getD, take}
 use Rattle.lists.specs.Lists.{lowValue}
 use Rattle.image.specs.Image.{imageLength}
-use Rattle.kind.specs.Kind.{kindOf}
-use Rattle.part.specs.Part.{numberFits}
 use Rattle.flash.specs.Flash.{stateAllowed}
 use Rattle.eeprom.specs.Eeprom.{widthAllowed, w, countLimit}
 use Rattle.cart.specs.ChipState.{phaseOf}
 use Rattle.c_record.specs.RecordBytes.{recordSize, kindAt, dirtyAt, partAt}
 use Rattle.c_record.specs.Fields.{flashStateAt, bankAt, idAt, widthAt, largeAt, phaseAt, countAt, blockAt, placeAt}
 
+-- the usual part fits every kind
 unfoldable pub isKnown : List ℕ → Bool
 isKnown r =
     leb (getD r kindAt 0) 5
-    && numberFits (getD r partAt 0) (kindOf (getD r kindAt 0))
+    && eqb (getD r partAt 0) 0
     && imageLength (lowValue (take 4 r))
 
 pub record FlashUsual (r : List ℕ) : Type 0 where

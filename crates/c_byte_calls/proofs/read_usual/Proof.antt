@@ -1,14 +1,11 @@
--- `c_byte_calls::read_shown` meets its contract. Assumes nothing.
+-- `c_byte_calls::read_usual` meets its contract. Assumes nothing.
 use mathlib.Core.Path.{sym, ap, _∙_}
 use Rattle.kind.specs.Kind.{memorySize}
-use Rattle.part.specs.declared.Part.the-variants.{Usual}
-use Rattle.byte_step.specs.ByteStep.{readByte, outOfId}
-use Rattle.byte_step.proofs.Shown.{shown}
-use Rattle.c_record.specs.RecordBytes.{cartOf}
+use Rattle.byte_step.specs.ByteStep.{readByte}
 use Rattle.c_byte_calls.proofs.ByteCalls.{read-no, read-yes}
 use borrow.Author.Needs.{needs}
-use Rattle.c_byte_calls.proofs.read_shown.Statement.{statement}
-use Rattle.c_byte_calls.proofs.read_shown.Tie as tie
+use Rattle.c_byte_calls.proofs.read_usual.Statement.{statement}
+use Rattle.c_byte_calls.proofs.read_usual.Tie as tie
 
 returns : tie.Need-returns
 returns c =
@@ -21,15 +18,12 @@ returns-2 c =
     let q = c .before .before in
     let k = q .before .before .kind-in in
     let s = q .before .before .before .before in
-    let r = s .args .cart .now in
     let m = s .args .memory .now in
-    read-yes r m (s .pre .0) (q .if1 .left ∙ q .before .memory-size .ensures ∙ ap memorySize (k .ensures)) (s .args .address) (s .args .value .now) _
-    (c .shown-byte .ensures
-    ∙ (λ i. readByte (k .ensures i) Usual (outOfId (c .before .flash-in .ensures i)) m (s .args .address))
-    ∙ shown (cartOf r .kind) (cartOf r .part) (cartOf r .chip .flash) m (s .args .address) (s .pre .1))
+    read-yes (s .args .cart .now) m (s .pre .0) (q .if1 .left ∙ q .before .memory-size .ensures ∙ ap memorySize (k .ensures)) (s .args .address) (s .args .value .now) _
+    (c .read-byte .ensures ∙ (λ i. readByte (k .ensures i) (sym (s .pre .1) i) (c .before .flash-in .ensures i) m (s .args .address)))
 
-pub read-shown-spec : {M : Type 1} → statement M
-read-shown-spec =
+pub read-usual-spec : {M : Type 1} → statement M
+read-usual-spec =
     tie.close
     (tie.spec
     (λ c κs. search needs)
