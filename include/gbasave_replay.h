@@ -36,7 +36,7 @@
  *
  * IT IS PROVED that the output is the same as that of the list without its cuts, with every part, wherever the cuts are
  * and however many there are. About lists of the calls of gbasave.h themselves, with cuts made of them, the same is a
- * theorem about their contracts: see STATES in gbasave.h.
+ * theorem about their contracts: see WHAT IS PROVED OF STATES in gbasave.h.
  */
 #ifndef GBASAVE_REPLAY_H
 #define GBASAVE_REPLAY_H

@@ -7,10 +7,12 @@ use lib.ListN.{replicate}
 use Rattle.lists.specs.Lists.{ascii, into, lowFirst}
 use Rattle.memory.specs.Memory.{erased, stored, filled}
 use Rattle.image.specs.Image.{imageLength}
-use Rattle.kind.specs.declared.SaveType.the-variants.{None}
+use Rattle.kind.specs.declared.SaveType.{SaveType}
+use Rattle.kind.specs.declared.SaveType.the-variants.{None, Flash64, Flash128}
 use Rattle.kind.specs.Kind.{begins, stands, detectSaveType}
+use Rattle.part.specs.declared.Part.{Part}
 use Rattle.part.specs.declared.Part.the-variants.{Usual, Macronix64, Macronix128}
-use Rattle.part.specs.Part.{partOf, idWord, partFits}
+use Rattle.part.specs.Part.{partOf, partFits}
 use Rattle.file_sizes.specs.SaveFit.{chipSize, eepromFit, saveFit, keptPart}
 use Rattle.flash.specs.Flash.{stateAllowed}
 use Rattle.eeprom.specs.Eeprom.{widthAllowed, w, readBit, afterRead}
@@ -30,6 +32,9 @@ longer s = stateWith s (s .cart .dirty) (s .cart .chip) (0 ∷ s .memory)
 abbrev sram : List ℕ
 sram = ascii "SRAM_V" ++ replicate 186 0
 
+abbrev fresh192 : SaveType → Part → State
+fresh192 kind part = record { cart = freshCart 192 kind part; memory = [] }
+
 record Refusals : Type 0 where
   record2 : (step chipState [] (spoiled plain) .refusal ≡ 2) × (step takeSaveDirty [] (spoiled plain) .refusal ≡ 2) × (restore [] (spoiled plain) .refusal ≡ 2)
   length2 : step chipState [] (record { cart = freshCart 191 None Usual; memory = [] }) .refusal ≡ 2
@@ -41,6 +46,10 @@ record Refusals : Type 0 where
   width10 : restored (replicate 3 0 ++ (7 ∷ replicate 14 0)) ≡ 10
   room13 : step saveData (replicate 511 7) eeprom .refusal ≡ 13
   import14 : importSave (replicate 513 0) eeprom .refusal ≡ 14
+  -- a part of 64 KiB without flash, and one of 128 KiB on Flash64 and on Flash128; a named part without flash, and no part's number
+  part2 : (step chipState [] (fresh192 None Macronix64) .refusal ≡ 2) × (step chipState [] (fresh192 Flash64 Macronix128) .refusal ≡ 2) × (step chipState [] (fresh192 Flash128 Macronix128) .refusal ≡ 0)
+  part15 : (fromBytes (replicate 192 0) 1 [] .refusal ≡ 15) × (fromBytes (replicate 192 0) 6 [] .refusal ≡ 15)
+  memoryFirst : fromBytes sram 6 [] .refusal ≡ 3
 
 refusals : Refusals
 unfolding lowFirst erased imageLength begins stands detectSaveType partOf partFits chipSize eepromFit saveFit keptPart stateAllowed widthAllowed w phaseOf chipBytes chipOf fieldQuestions recordAllowed freshCart fresh fromBytes fileOf questions accepted step restore importSave
@@ -56,6 +65,9 @@ refusals =
       width10 = refl;
       room13 = refl;
       import14 = refl;
+      part2 = (refl, refl, refl);
+      part15 = (refl, refl);
+      memoryFirst = refl;
     }
 
 -- kind None reads FFh and has no file; the file of 512 bytes into a destination of 513; an import with its footer; a byte write to an

@@ -14,7 +14,7 @@ use Rattle.part.specs.declared.Part.{Part}
 use Rattle.part.specs.declared.Part.the-variants.{Usual, Sst64, Macronix64, Panasonic64, Sanyo128, Macronix128}
 use Rattle.part.specs.Part.{partOf, partFits}
 use Rattle.flash.specs.declared.Flash.{Flash}
-use Rattle.byte_step.specs.ByteStep.{readByte, writeStep}
+use Rattle.byte_step.specs.ByteStep.{readByte}
 use Rattle.eeprom.specs.Eeprom.{bitIn}
 use Rattle.cart.specs.Record.{State, Outcome, guarded, outcome, recordAllowed, freshCart, fresh, fromBytes}
 use Rattle.cart.specs.Calls.{Call, saveRead, saveWrite, eepromBeginDma, eepromWrite, eepromRead, loadSave, saveData, chipState, takeSaveDirty}

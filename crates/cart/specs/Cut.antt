@@ -75,8 +75,8 @@ run image part memory (t ∷ list) s =
 abbrev pub uncut : List Turn → List Turn
 uncut = map (λ t. record { call = t .call; destination = t .destination; cutsBehind = 0 })
 
--- demand 3: from a fresh cartridge with any part, with "no byte write to an EEPROM cartridge"; "It is one claim about the whole
--- list with all its cuts."
+-- demand 3: from a fresh cartridge with any part, with "no byte write to an EEPROM cartridge"; "It is one claim about
+-- the whole list with all its cuts."
 abbrev pub CutRuns : Type 0
 CutRuns =
     (image : List ℕ) (part : ℕ) (memory : List ℕ) (list : List Turn)

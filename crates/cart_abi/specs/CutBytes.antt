@@ -21,14 +21,15 @@ use Rattle.cart_abi.specs.Host.{ExportedCall, saveRead, saveWrite, eepro
 use Rattle.cart_abi.specs.Host.{loadSave, saveData, chipState, takeSaveDirty, importSave}
 use Rattle.cart_abi.specs.Host.{Bytes, Found, found, plainly, make}
 
--- a valid record's bytes and a memory that are a cartridge of the image with the part, whatever its chip, memory and flag hold
+-- a valid record's bytes and a memory that are a cartridge of the image with the part, whatever its chip, memory and
+-- flag hold
 pub record OpenBytes (image : List ℕ) (part : ℕ) (b : Bytes) : Type 0 where
   pub bytesOk : areBytes (b .bytes) ≡ true
   pub valid : isRecord (b .bytes) ≡ true
   pub isOpen : Open image part (stateOf (b .bytes) (b .memory))
 
--- where a host goes on after a cut: "open the same image", with the same part and a memory; or, without an opening, in a cartridge of
--- the image and part that is open
+-- where a host goes on after a cut: "open the same image", with the same part and a memory; or, without an opening, in
+-- a cartridge of the image and part that is open
 pub data Target (image : List ℕ) (part : ℕ) : Type 0 where
   anew : (memory : List ℕ) → opens image part memory .0 ≡ 0 → Target image part
   inPlace : (b : Bytes) → OpenBytes image part b → Target image part

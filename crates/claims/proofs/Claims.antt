@@ -12,6 +12,7 @@ use Rattle.cart.proofs.SramBytes.{sram-bytes}
 use Rattle.cart.proofs.Reached.{usable-states}
 use Rattle.cart.proofs.Restore.{state-bytes}
 use Rattle.cart.proofs.Flag.{flag-kept}
+use Rattle.cart.proofs.Parts.{part-kept}
 use Rattle.cart.proofs.Cases.{cases-hold}
 use Rattle.cart.proofs.CutRuns.{cut-runs}
 use Rattle.cart.proofs.Resume.{resumes}
@@ -52,6 +53,7 @@ claims =
       others = record {
         cases = cases-hold;
         flagKept = flag-kept;
+        partKept = part-kept;
         thinCall = thin-call;
         recordAndBytes = record-and-bytes;
         largestKept = largest-kept;

@@ -9,12 +9,13 @@ use Rattle.image.specs.Gbatek.{HeaderComplement}
 use Rattle.title.specs.Claims.{TitleFits}
 use Rattle.crc.specs.Pieces as crc
 use Rattle.kind.specs.declared.SaveType.{SaveType}
+use Rattle.part.specs.declared.Part.{Part}
 use Rattle.file_sizes.specs.Claims.{LargestKept}
 use Rattle.flash.specs.Gbatek.{FlashChipClaim}
 use Rattle.eeprom.specs.Gbatek.{SerialChipClaim, OpcodeLost, Abandons}
 use Rattle.cart.specs.declared.ChipRecord.{ChipRecord}
 use Rattle.cart.specs.Gbatek.{SramClaim, FlashClaim, SerialBitsClaim, SerialClaim, UsableStates}
-use Rattle.cart.specs.Claims.{StateBytes, FlagKept}
+use Rattle.cart.specs.Claims.{StateBytes, FlagKept, PartKept}
 use Rattle.cart.specs.Cases.{Cases}
 use Rattle.cart.specs.Cut.{CutRuns}
 use Rattle.cart.specs.Resume.{Resumes}
@@ -57,8 +58,9 @@ pub record Cuts : Type 0 where
 pub record Others : Type 0 where
   pub cases : Cases
   pub flagKept : FlagKept
-  pub thinCall : (len : ℕ) (kind : SaveType) (dirty : Bool) (chip : ChipRecord) (m : List ℕ) (v : ℕ)
-      → ThinCall len kind dirty chip m v
+  pub partKept : PartKept
+  pub thinCall : (len : ℕ) (kind : SaveType) (part : Part) (dirty : Bool) (chip : ChipRecord) (m : List ℕ) (v : ℕ)
+      → ThinCall len kind part dirty chip m v
   pub recordAndBytes : RecordAndBytes
   pub largestKept : LargestKept
   pub noneIsZero : NoneIsZero
