@@ -40,7 +40,8 @@ fn read_any(cart: &RecordBytes, memory: &[u8], address: u32, value: &mut u32) ->
     read_valid(cart, &memory[..], address, value)
 }
 
-// With the usual part, whose ID words are one table by the kind: short enough that the compiler puts it into `save_read`.
+// With the usual part, whose ID words are one table by the kind. With both tables the compiler would leave the function
+// out of `save_read`.
 fn read_usual(cart: &RecordBytes, memory: &[u8], address: u32, value: &mut u32) -> u32
     requires { ⌜ Valid (now cart) × (cartOf (now cart) .part ≡ Usual) ⌝ }
     ensures { λ x. ⌜ (x, now (cart .entry), now (memory .entry), now (value .exit))

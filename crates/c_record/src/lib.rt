@@ -26,9 +26,9 @@ ghost use Rattle.kind.specs.Kind.{kindOf};
 ghost use Rattle.part.specs.Part.{numberFits};
 ghost use Rattle.c_record.specs.RecordBytes.{recordSize, isRecord, Valid};
 
-// A kind's number, and that of a part which fits it, in eight times the part and the kind: the usual part at 0 to 5, the
-// named ones at five places, of which the compiler makes one test. The table of sizes would be built in every call.
-pub fn kind_and_part(kind: u8, part: u8) -> bool
+// A kind's number, and that of a part which fits it, in eight times the part and the kind: the usual part at 0 to 5,
+// the named ones at five places, of which the compiler makes one test. The table of sizes would be built in every call.
+fn kind_and_part(kind: u8, part: u8) -> bool
     ensures { λ b. ⌜ b ≡ (leb kind 5 && numberFits part (kindOf kind)) ⌝ }
 {
     let place = part as u32 * 8 + kind as u32;

@@ -9,7 +9,8 @@ use Rattle.lists.specs.Questions.{FirstNo}
 use Rattle.part.specs.declared.Part.{Part}
 use Rattle.part.specs.Part.{partOf, partFits}
 use Rattle.cart.specs.Record.{State, Outcome, outcomeOf, outcome, recordAllowed, fromBytes}
-use Rattle.cart.specs.Calls.{Call, saveRead, loadSave, chipState, takeSaveDirty, restoreQuestions, step, restore, importSave}
+use Rattle.cart.specs.Calls.{Call, saveRead, loadSave, chipState, takeSaveDirty}
+use Rattle.cart.specs.Calls.{restoreQuestions, step, restore, importSave}
 
 -- demand 2: "Each record that `chip_state` writes is restored to itself; bytes that restore accepts are written
 -- back unchanged."

@@ -75,8 +75,8 @@ abbrev pub writes : List Write → List Call
 writes = map (λ w. saveWrite (w .address) (w .value))
 
 -- every list of writes is accepted and does what it does to the chip; a byte read shows the memory or, in ID mode, the
--- maker at even addresses and the device at odd ones; where the chip awaits a command, `does` has what each command does
--- to it, and a read gives what the last write stored
+-- maker at even addresses and the device at odd ones; where the chip awaits a command, `does` has what each command
+-- does to it, and a read gives what the last write stored
 pub record FlashCommands (maker device : ℕ) (s : State) : Type 0 where
   pub accepts : (ws : List Write) → calls (writes ws) s ≡ ran [] (withFlash s (written ws (flashOf s)))
   pub shows : s .cart .chip .flash .id ≡ false

@@ -115,8 +115,8 @@ pub fn chip_of(b: &[u8]) -> ChipRecord
     }
 }
 
-// Questions 7 to 12, about the fields: the first number that applies, or 0. A count that its phase allows is below 64, so
-// that the limit is asked first.
+// Questions 7 to 12, about the fields: the first number that applies, or 0. A count that its phase allows is below 64:
+// so the limit is asked first, and the bound of 64 only of a count that is refused.
 pub fn field_questions(b: &[u8]) -> u8
     requires { ⌜ length (now b) ≡ stateSize ⌝ }
     ensures { λ r. ⌜ r ≡ asked (fieldQuestions (now (b .entry))) ⌝ }

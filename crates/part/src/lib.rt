@@ -2,7 +2,8 @@
 
 use kind::SaveType;
 ghost use mathlib.Core.Path.{_≡_};
-ghost use Rattle.part.specs.Part.{partNumber, partOf, partSize, partWord, usualWord, idWord, numberFits, partFits};
+ghost use Rattle.part.specs.Part.{partNumber, partOf, partSize, partWord, usualWord, idWord};
+ghost use Rattle.part.specs.Part.{numberFits, partFits};
 
 // The chip that a maker put in, or the usual one of the kind.
 pub enum Part {
