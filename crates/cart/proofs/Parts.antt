@@ -1,11 +1,10 @@
 -- The part: which parts fit the flash kinds, what keeps it, and what looks at it. Assumes nothing.
-use mathlib.Core.Path.{_≡_, refl, sym, ap, _∙_}
+use mathlib.Core.Path.{_≡_, refl, ap, _∙_}
 use mathlib.Core.Bool.{Bool, true, false, cond}
 use mathlib.Core.List.{List, [], _∷_}
 use mathlib.Core.Option.{Option, none, some}
 use Prim.Native.Nat.{ℕ}
 use lib.Dec.{eqb}
-use lib.ListN.{length}
 use Rattle.lists.specs.Questions.{Question, asked}
 use Rattle.lists.proofs.Bools.{either}
 use Rattle.kind.specs.declared.SaveType.{SaveType}
@@ -16,10 +15,10 @@ use Rattle.part.specs.Part.{partOf, partFits}
 use Rattle.flash.specs.declared.Flash.{Flash}
 use Rattle.byte_step.specs.ByteStep.{readByte}
 use Rattle.eeprom.specs.Eeprom.{bitIn}
-use Rattle.cart.specs.Record.{State, Outcome, guarded, outcome, recordAllowed, freshCart, fresh, fromBytes}
+use Rattle.cart.specs.Record.{State, Outcome, guarded, outcome, recordAllowed, freshCart, fresh}
 use Rattle.cart.specs.Calls.{Call, saveRead, saveWrite, eepromBeginDma, eepromWrite, eepromRead, loadSave, saveData, chipState, takeSaveDirty}
 use Rattle.cart.specs.Calls.{readSave, writeSave, load, fileOf, exported, questions, accepted, step, restoreQuestions, restore, importQuestions, importSave}
-use Rattle.cart.specs.Gbatek.{Usable, FlashPart, sst64K, macronix64K, panasonic64K, usual64K, sanyo128K, macronix128K, usual128K, Listed}
+use Rattle.cart.specs.Gbatek.{Usable, sst64K, macronix64K, panasonic64K, usual64K, sanyo128K, macronix128K, usual128K, Listed}
 use Rattle.cart.specs.Claims.{withPart, outcomeWith, PartKept}
 use Rattle.cart.proofs.Sound.{opened}
 use Rattle.cart.proofs.Usable.{to-fields}

@@ -1,6 +1,6 @@
 -- A part and its number give each other back; tables by part number. Assumes nothing.
-use mathlib.Core.Path.{_≡_, refl, sym, ap, _∙_}
-use mathlib.Core.Bool.{Bool, true, _&&_}
+use mathlib.Core.Path.{_≡_, refl, sym}
+use mathlib.Core.Bool.{true}
 use mathlib.Core.List.{[], _∷_}
 use Prim.Native.Nat.{ℕ, _<_}
 use native.Mathlib.Omega.{arith}
@@ -8,10 +8,9 @@ use lib.Dec.{leb, eqb}
 use lib.ListN.{getD}
 use borrow.Author.Tests.{leb-true, eqb-true, eqb-false}
 use Rattle.lists.proofs.Bools.{split}
-use Rattle.kind.specs.declared.SaveType.{SaveType}
 use Rattle.part.specs.declared.Part.{Part}
 use Rattle.part.specs.declared.Part.the-variants.{Usual, Sst64, Macronix64, Panasonic64, Sanyo128, Macronix128}
-use Rattle.part.specs.Part.{byPart, partNumber, partOf, partFits, numberFits}
+use Rattle.part.specs.Part.{byPart, partNumber, partOf}
 
 pub part-le : (p : Part) → leb (partNumber p) 5 ≡ true
 part-le Usual = refl
@@ -40,10 +39,6 @@ part-forth n h =
     (λ e2. split P (eqb n 3) (λ e. sym (eqb-true n 3 e))
     (λ e3. split P (eqb n 4) (λ e. sym (eqb-true n 4 e))
     (λ e4. omega (arith, leb-true n 5 h, eqb-false n 0 e0, eqb-false n 1 e1, eqb-false n 2 e2, eqb-false n 3 e3, eqb-false n 4 e4))))))
-
--- a part fits by its number as it fits by itself
-pub own-number : (p : Part) (kind : SaveType) → numberFits (partNumber p) kind ≡ partFits p kind
-own-number p kind = rw (part-le p, part-back p)
 
 -- a table read by part number
 pub part-lt : (p : Part) → partNumber p < 6

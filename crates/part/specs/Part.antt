@@ -1,5 +1,5 @@
 -- The flash parts. Document 02, ticket 1.
-use mathlib.Core.Bool.{Bool, true, cond, _&&_, _||_}
+use mathlib.Core.Bool.{Bool, cond, _&&_, _||_}
 use Prim.Native.Nat.{ℕ}
 use lib.Dec.{leb, eqb}
 use Rattle.kind.specs.declared.SaveType.{SaveType}
