@@ -116,7 +116,7 @@ fn bits() {
     let reading = with_block(serial(14, 1, 6, 0), 100);
     let (mut cart, mut part) = open(kind::EEPROM512, reading);
     row(
-        "serial bit out, 68 behind each restore",
+        "serial bit out, 68 after each restore",
         68,
         || {
             used(original::restore(&mut cart, &reading));
