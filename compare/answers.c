@@ -1,7 +1,9 @@
 /*
  * Replays the stored answers of the original through the C calls, without the original: reads the list that README.md describes, makes the
- * call of each line and compares the answer. Prints the first lines that differ, then for each frame how many lines were replayed and how
- * many of them differ. The status is 1 if an answer differs, if the list is malformed or if a line of it was not replayed.
+ * call of each line and compares the answer. The list has no number of changed bytes: after each call that stores, the number is compared with
+ * a count over the memory before and after the call. Prints the first lines that differ, then for each frame how many lines were replayed and
+ * how many of them differ. The status is 1 if an answer or a number differs, if the list is malformed or if a line of it was not replayed.
+ * --fault count counts one byte too few, which has to be found.
  */
 #include "gbasave.h"
 
@@ -33,6 +35,10 @@ static struct {
 
 static uint8_t image[GBASAVE_IMAGE_MAX];
 static uint8_t file[FILE_MAX];
+
+/* The cartridge's memory before a call that stores. */
+static uint8_t before[GBASAVE_MEMORY_MAX];
+static bool faulty_count;
 
 /* Lines, by the frame's number. */
 static struct {
@@ -110,6 +116,34 @@ static void put_value(struct answer *a, uint32_t refusal, uint32_t value, int di
         put(a, value, digits);
 }
 
+/* ---- Changed bytes ------------------------------------------------------------------------------------------------ */
+
+/* Before a call that stores. Returns what its out-parameter has then. */
+static uint32_t keep_memory(void)
+{
+    memcpy(before, cart.memory, sizeof before);
+    return NO_VALUE;
+}
+
+static uint32_t changed_bytes(void)
+{
+    uint32_t changed = 0;
+    for (size_t i = 0; i < cart.size; i++)
+        if (cart.memory[i] != before[i])
+            changed++;
+    return faulty_count && changed > 0 ? changed - 1 : changed;
+}
+
+/* 00, or the number of the refusal. If the call wrote another number of changed bytes than there are, or any at a refusal, that is in the answer
+   too, which then differs. */
+static void put_stored(struct answer *a, uint32_t refusal, uint32_t changed)
+{
+    const uint32_t expected = put_status(a, refusal) ? changed_bytes() : NO_VALUE;
+    if (changed != expected)
+        a->count += (size_t)snprintf(a->digits + a->count, sizeof a->digits - a->count, " and %lu changed bytes, not %lu",
+                                     (unsigned long)changed, (unsigned long)expected);
+}
+
 /* ---- Files and images ---------------------------------------------------------------------------------------------- */
 
 static void make_file(size_t length, uint8_t seed)
@@ -181,7 +215,9 @@ static void read_byte(const uint8_t *s, struct answer *a)
 /* 02 address (8) value (2) */
 static void write_byte(const uint8_t *s, struct answer *a)
 {
-    put_status(a, gbasave_save_write(&cart.record, cart.memory, cart.size, number(s, 4), s[4]));
+    uint32_t changed = keep_memory();
+    const uint32_t refusal = gbasave_save_write(&cart.record, cart.memory, cart.size, number(s, 4), s[4], &changed);
+    put_stored(a, refusal, changed);
 }
 
 /* 03 */
@@ -195,7 +231,9 @@ static void bit_out(struct answer *a)
 /* 04 value (4) */
 static void bit_in(const uint8_t *s, struct answer *a)
 {
-    put_status(a, gbasave_eeprom_write(&cart.record, cart.memory, cart.size, (uint16_t)number(s, 2)));
+    uint32_t changed = keep_memory();
+    const uint32_t refusal = gbasave_eeprom_write(&cart.record, cart.memory, cart.size, (uint16_t)number(s, 2), &changed);
+    put_stored(a, refusal, changed);
 }
 
 /* 05 words (4) */
@@ -226,7 +264,9 @@ static void load(const uint8_t *s, struct answer *a)
 {
     const uint32_t length = number(s, 3);
     make_file(length, s[3]);
-    put_status(a, gbasave_load_save(&cart.record, cart.memory, cart.size, file, length));
+    uint32_t changed = keep_memory();
+    const uint32_t refusal = gbasave_load_save(&cart.record, cart.memory, cart.size, file, length, &changed);
+    put_stored(a, refusal, changed);
 }
 
 /* 09 */
@@ -440,9 +480,10 @@ static int report(unsigned long lines)
 int main(int argc, char **argv)
 {
     static char room[LIST_MAX];
-    FILE *stream = argc == 2 ? fopen(argv[1], "rb") : NULL;
+    faulty_count = argc == 4 && strcmp(argv[2], "--fault") == 0 && strcmp(argv[3], "count") == 0;
+    FILE *stream = argc == 2 || faulty_count ? fopen(argv[1], "rb") : NULL;
     if (stream == NULL) {
-        fprintf(stderr, "usage: answers LIST, which is a file that can be read\n");
+        fprintf(stderr, "usage: answers LIST [--fault count], where LIST is a file that can be read\n");
         return 2;
     }
     const struct text list = {room, fread(room, 1, sizeof room, stream)};

@@ -1,15 +1,16 @@
 /*
  * Which question refuses which call: every call on a record, with records and memories around every limit, and every opening and ID word by
  * part and kind, held against document 01's "Questions at the door" and document 02's ticket 1 as written here. The original cannot be asked:
- * it has no such records, memories, destinations and parts. A refused call has to leave record, memory, destination and place as they were;
- * a refused opening makes the record zeros. ID mode has to show each part's word. --fault NAME expects something wrong, which has to be found.
+ * it has no such records, memories, destinations and parts. A refused call has to leave record, memory, destination and places as they were;
+ * a refused opening makes the record zeros. ID mode has to show each part's word. An accepted call that stores has to write how many bytes of the
+ * memory it changed, ticket 2's number. --fault NAME expects something wrong, which has to be found.
  */
 #include "gbasave.h"
 
 #include <stdio.h>
 #include <string.h>
 
-enum { RECORD = GBASAVE_RECORD_SIZE, LONGEST = GBASAVE_MEMORY_MAX + 1, PLACE = 0x5EED5EED, CALLS = 14, KINDS = 6, PARTS = 6 };
+enum { RECORD = GBASAVE_RECORD_SIZE, LONGEST = GBASAVE_MEMORY_MAX + 1, PLACE = 0x5EED5EED, CALLS = 15, KINDS = 6, PARTS = 6 };
 
 static const uint32_t SIZE[KINDS] = {0, 32768, 65536, 131072, 8192, 8192};
 
@@ -27,10 +28,16 @@ enum { NUMBERS = 256 + sizeof ABOVE / sizeof *ABOVE };
 static uint8_t kept[LONGEST], copy[LONGEST], scratch[LONGEST], file[LONGEST];
 static uint8_t image[GBASAVE_IMAGE_MAX + 1];
 
+/* Like the file in its first 100 bytes only: imported after the file was loaded, 512 are kept and 412 change. */
+static uint8_t other_file[512];
+
+/* What scratch holds before a call on a record that stores. No other one changes it. */
+static uint8_t before[LONGEST];
+
 /* What is expected wrongly: a count of 64 in phase 3; records with a part that does not fit; a 128K part on Flash64; 15 asked before 3; two parts'
-   words swapped; the maker at odd addresses. */
-static enum { NOTHING, COUNT, RECORDS, SIZES, ORDER, WORDS, MAKER } fault;
-static const char *const FAULT[] = {"nothing", "count", "records", "sizes", "order", "words", "maker"};
+   words swapped; the maker at odd addresses; every byte of the memory changed by a load; the number 0 of a refused call that stores. */
+static enum { NOTHING, COUNT, RECORDS, SIZES, ORDER, WORDS, MAKER, LOADS, REFUSED } fault;
+static const char *const FAULT[] = {"nothing", "count", "records", "sizes", "order", "words", "maker", "loads", "refused"};
 
 static unsigned long calls, by_number[16];
 
@@ -211,36 +218,69 @@ static uint32_t first_no(unsigned call, const uint8_t *r, size_t memory)
     const unsigned kind = r[GBASAVE_RECORD_KIND], phase = r[11], count = r[12];
     if (!is_record(r))
         return 2;
-    if (call < 8 && memory != SIZE[kind])
+    if (call < 9 && memory != SIZE[kind])
         return 3;
     switch (call) {
     case 2: return kind < 4 ? 4 : 0;
     case 5: return kind == 0 ? 0 : 13; /* no file is so short as its destination */
     case 7: return 14;                 /* no file has 100 bytes */
-    case 8: return (phase == 1 || phase == 2) && count >= 6 ? 5 : 0;
+    case 8: return kind < 4 ? 14 : 0;  /* an EEPROM's file may have 512 */
+    case 9: return (phase == 1 || phase == 2) && count >= 6 ? 5 : 0;
     default: return 0;
     }
 }
 
-static uint32_t made(unsigned call, gbasave_record *r, uint8_t *memory, size_t length, uint8_t *bytes, uint32_t *place)
+static uint32_t made(unsigned call, gbasave_record *r, uint8_t *memory, size_t length, uint8_t *bytes, uint32_t *place, uint32_t *changed)
 {
     static const uint8_t state[GBASAVE_STATE_SIZE];
     switch (call) {
     case 0: return gbasave_save_read(r, memory, length, 0x1234, place);
-    case 1: return gbasave_save_write(r, memory, length, 0x1234, 0x12);
-    case 2: return gbasave_eeprom_write(r, memory, length, 1);
+    case 1: return gbasave_save_write(r, memory, length, 0x1234, 0x12, changed);
+    case 2: return gbasave_eeprom_write(r, memory, length, 1, changed);
     case 3: return gbasave_eeprom_read(r, memory, length, place);
-    case 4: return gbasave_load_save(r, memory, length, file, 600);
+    case 4: return gbasave_load_save(r, memory, length, file, 600, changed);
     case 5: return gbasave_save_data(r, memory, length, bytes, 511, place);
-    case 6: return gbasave_load_save(r, memory, length, file, 512);
-    case 7: return gbasave_import_save(r, memory, length, file, 100, place);
-    case 8: return gbasave_eeprom_begin_dma(r, 73);
-    case 9: return gbasave_chip_state(r, bytes);
-    case 10: return gbasave_take_save_dirty(r, place);
-    case 11: return gbasave_uses_eeprom(r, place);
-    case 12: return gbasave_eeprom_window_start(r, place);
+    case 6: return gbasave_load_save(r, memory, length, file, 512, changed);
+    case 7: return gbasave_import_save(r, memory, length, file, 100, place, changed);
+    case 8: return gbasave_import_save(r, memory, length, other_file, sizeof other_file, place, changed);
+    case 9: return gbasave_eeprom_begin_dma(r, 73);
+    case 10: return gbasave_chip_state(r, bytes);
+    case 11: return gbasave_take_save_dirty(r, place);
+    case 12: return gbasave_uses_eeprom(r, place);
+    case 13: return gbasave_eeprom_window_start(r, place);
     default: return gbasave_restore_chip_state(r, state, sizeof state);
     }
+}
+
+static int stores(unsigned call)
+{
+    return call == 1 || call == 2 || call == 4 || (call >= 6 && call <= 8);
+}
+
+/* "the number of memory places whose value differs from before", of the whole memory. Pieces that are the same are passed over. */
+static uint32_t changed_bytes(size_t memory)
+{
+    uint32_t changed = 0;
+    for (size_t piece = 0; piece < memory; piece += 4096) {
+        const size_t length = memory - piece < 4096 ? memory - piece : 4096;
+        if (memcmp(before + piece, scratch + piece, length) == 0)
+            continue;
+        for (size_t i = piece; i < piece + length; i++)
+            changed += before[i] != scratch[i];
+        memcpy(before + piece, scratch + piece, length);
+    }
+    return changed;
+}
+
+/* What has to be in the place for the number after a call: a refused call leaves it, and so does one that is not given it. */
+static uint32_t number_of(unsigned call, uint32_t no, size_t memory)
+{
+    if (!stores(call))
+        return PLACE;
+    if (no)
+        return fault == REFUSED ? 0 : PLACE;
+    const uint32_t changed = changed_bytes(memory);
+    return fault == LOADS && call == 4 ? (uint32_t)memory : changed;
 }
 
 static int wrong(const char *what, unsigned call, const uint8_t *r, size_t memory)
@@ -255,15 +295,17 @@ static int wrong(const char *what, unsigned call, const uint8_t *r, size_t memor
 static int ask(const uint8_t *given, size_t memory)
 {
     for (unsigned call = 0; call < CALLS; call++) {
-        static uint8_t bytes[GBASAVE_STATE_SIZE + 511], untouched[sizeof bytes];
+        static uint8_t bytes[GBASAVE_STATE_SIZE + 511], untouched[sizeof bytes], destination[sizeof bytes];
         gbasave_record r;
-        uint32_t place = PLACE;
+        uint32_t place = PLACE, changed = PLACE;
         memcpy(r.bytes, given, RECORD);
         const uint32_t no = first_no(call, given, memory);
         calls++;
         by_number[no]++;
-        if (made(call, &r, no ? kept : scratch, memory, no ? bytes : scratch, &place) != no)
+        if (made(call, &r, no ? kept : scratch, memory, no ? bytes : destination, &place, &changed) != no)
             return wrong("another number", call, given, memory);
+        if (changed != number_of(call, no, memory))
+            return wrong("another number of changed bytes", call, given, memory);
         if (no && (place != PLACE || memcmp(r.bytes, given, RECORD) || memcmp(bytes, untouched, sizeof bytes)))
             return wrong("something is changed", call, given, memory);
         if (r.bytes[GBASAVE_RECORD_PART] != given[GBASAVE_RECORD_PART])
@@ -318,6 +360,7 @@ static int ask_records(void)
 {
     /* Records behind byte 3: at rest; a flash command in bank 1 and ID mode; an address at each width; data; a read; large. */
     static const uint8_t BASE[][14] = {{0}, {0, 1, 4, 1, 1}, {0, 0, 0, 0, 0, 6, 0, 1, 5}, {0, 1, 0, 0, 0, 14, 1, 2, 13}, {0, 0, 0, 0, 0, 0, 1, 3, 63, 100}, {0, 0, 0, 0, 0, 14, 1, 6, 0, 255, 3, 67}, {0, 0, 8, 1, 0, 0, 1}};
+    memcpy(before, scratch, LONGEST);
     for (unsigned kind = 0; kind < KINDS; kind++)
         for (unsigned part = 0; part < PARTS; part++)
             for (size_t base = 0; base < sizeof BASE / sizeof *BASE && fits(part, kind); base++) {
@@ -337,11 +380,13 @@ int main(int argc, char **argv)
         if (strcmp(argv[2], FAULT[i]) == 0)
             fault = i;
     if (argc > 1 && fault == NOTHING) {
-        fprintf(stderr, "usage: questions [--fault count | records | sizes | order | words | maker]\n");
+        fprintf(stderr, "usage: questions [--fault count | records | sizes | order | words | maker | loads | refused]\n");
         return 2;
     }
     for (size_t i = 0; i < LONGEST; i++)
         kept[i] = copy[i] = file[i] = (uint8_t)(i * 31 + i / 256);
+    for (size_t i = 0; i < sizeof other_file; i++)
+        other_file[i] = i < 100 ? file[i] : (uint8_t)~file[i];
     if (ask_words() || read_bytes() || ask_openings(GBASAVE_KIND_NONE, GBASAVE_KIND_EEPROM512) || ask_records() ||
         ask_openings(GBASAVE_KIND_EEPROM8K, GBASAVE_KIND_EEPROM8K))
         return 1;

@@ -73,12 +73,28 @@
  * A REFUSED CALL CHANGES NOTHING: the record, the memory, the destination, the state and every out-parameter keep
  * their values. The one exception is gbasave_from_bytes: if it is refused it writes 25 zeros to the record.
  *
+ * CHANGED BYTES. Four calls store: gbasave_save_write, gbasave_eeprom_write, gbasave_load_save and gbasave_import_save.
+ * Each writes to *changed how many bytes of the memory have another value after the call than before it:
+ *
+ *     a byte stored in SRAM, programmed in flash or written to an EEPROM kind     0 or 1
+ *     a block of the EEPROM                                                       0 to 8
+ *     a sector of flash erased                                                    0 to 4,096
+ *     the flash chip erased, a file loaded or imported                            0 to the memory's length
+ *     a step or a bit of a command that stores nothing; kind NONE                 0
+ *
+ * The number is for a host with a write-back budget. Such a host adds the numbers up, and writes out the file when the
+ * sum reaches the budget. The memory differs in at most as many bytes from what it was when the sum was 0.
+ *
+ * The number does not replace the changed flag. Storing the value that is already there gives 0 and sets the flag to 1.
+ * Loads, imports and byte writes to an EEPROM kind have a number, and leave the flag as it was. Opening has no number.
+ * The sum says when to write out the file; the flag says at the end whether there is anything left to write out.
+ *
  * WHAT THE CALLER HAS TO ENSURE, in every call. A buffer is a pointer and a length in bytes. (For the state of
  * gbasave_chip_state the length is 18.)
  *   - No pointer is NULL, except that of a buffer whose length is 0. Such a pointer may be any pointer, also NULL, as
  *     an empty std::vector has it. Nothing is read or written through it.
  *   - No two of the objects passed to one call overlap: no two of record, image, memory, file, state, destination and
- *     out-parameter.
+ *     out-parameters.
  *   - A buffer is as long as its length says, and it can be written to if its pointer is not to const.
  *   - While the call runs, nothing else writes to the objects passed to it, or reads one that the call writes to.
  * Only out-parameters need an alignment, that of uint32_t. The calls check everything else: a buffer may hold any
@@ -89,7 +105,8 @@
  *
  * TIME. gbasave_from_bytes, gbasave_detect_save_type, gbasave_save_fit, gbasave_save_size and gbasave_rom_crc read the
  * image, gbasave_crc_feed its piece. gbasave_load_save, gbasave_import_save, gbasave_save_data and the erasing of a
- * flash chip go through the memory. The time of every other call does not grow with the size of either.
+ * flash chip go through the memory, the erasing of a sector through its 4,096 bytes. The time of every other call does
+ * not grow with the size of either.
  *
  * TO PLAY.
  *   1. Compare gbasave_version() with GBASAVE_VERSION_NUMBER. If they differ, the archive belongs to another header.
@@ -104,7 +121,8 @@
  *      the transfer's first halfword. A game can cause one refusal here, 5. The chip is then unchanged, and the game
  *      goes on.
  *   6. From time to time, and at the end, call gbasave_take_save_dirty. If it sets *flag to 1, write out the file from
- *      gbasave_save_data.
+ *      gbasave_save_data. A host with a budget does so when the sum of *changed has reached it, and at the end. It
+ *      starts the sum at 0 after step 4 and whenever the file is written out.
  *
  * TO TAKE A STATE, keep:
  *   - the file from gbasave_save_data, if there is one (*length is not 0);
@@ -134,13 +152,14 @@
  *
  * WHAT IS PROVED OF STATES. Every later answer, file and state is the same as if no state had been taken and resumed,
  * where both cartridges are opened with the same part: the one of which the state is taken and the one in which it is
- * resumed. This holds for every part, and for every list of these ten calls, refused ones included: gbasave_save_read,
- * gbasave_save_write, gbasave_eeprom_begin_dma, gbasave_eeprom_write, gbasave_eeprom_read, gbasave_load_save,
- * gbasave_save_data, gbasave_import_save, gbasave_chip_state and gbasave_take_save_dirty. It holds wherever between the
- * calls states are taken and resumed, also between two bits of a serial command, and however often. It does not cover
- * the changed flag, lists with a byte write to an EEPROM kind, or the restoring of other states. It is also proved that
- * load and restore on the open cartridge of the same image and part leave the same memory as opening, load and restore,
- * and the same record except for the flag: opening sets it to 0, load and restore keep it.
+ * resumed. The numbers of changed bytes are among the answers. This holds for every part, and for every list of these
+ * ten calls, refused ones included: gbasave_save_read, gbasave_save_write, gbasave_eeprom_begin_dma,
+ * gbasave_eeprom_write, gbasave_eeprom_read, gbasave_load_save, gbasave_save_data, gbasave_import_save,
+ * gbasave_chip_state and gbasave_take_save_dirty. It holds wherever between the calls states are taken and resumed,
+ * also between two bits of a serial command, and however often. It does not cover the changed flag, lists with a byte
+ * write to an EEPROM kind, or the restoring of other states. It is also proved that load and restore on the open
+ * cartridge of the same image and part leave the same memory as opening, load and restore, and the same record except
+ * for the flag: opening sets it to 0, load and restore keep it.
  */
 #ifndef GBASAVE_H
 #define GBASAVE_H
@@ -153,8 +172,8 @@ extern "C" {
 #endif
 
 /* The version of this header and of its archive, as a text and as a number: major * 10000 + minor * 100 + patch. */
-#define GBASAVE_VERSION "0.3.0"
-#define GBASAVE_VERSION_NUMBER 300
+#define GBASAVE_VERSION "0.4.0"
+#define GBASAVE_VERSION_NUMBER 400
 
 /* Sizes in bytes. */
 #define GBASAVE_RECORD_SIZE 25
@@ -417,10 +436,11 @@ uint32_t gbasave_save_read(const gbasave_record *record, const uint8_t *memory, 
  *            the byte.
  *
  *   Asks:    2, 3
+ *   Writes:  *changed: how many bytes of the memory have changed (see CHANGED BYTES). 0 if nothing is stored.
  *   Changes: record (flag; flash state, bank and ID mode) and memory, as above.
  */
 uint32_t gbasave_save_write(gbasave_record *record, uint8_t *memory, size_t memory_length, uint32_t address,
-                            uint8_t value);
+                            uint8_t value, uint32_t *changed);
 
 /* ---- Serial bits: EEPROM ----------------------------------------------------------------------------------------- */
 
@@ -454,9 +474,11 @@ uint32_t gbasave_eeprom_begin_dma(gbasave_record *record, uint32_t words);
  * last bit of data stores the block's eight bytes and sets the flag to 1. After a read command gbasave_eeprom_read
  * gives 68 bits. If a bit is written before all 68 are read, it ends the read and begins a command.
  *   Asks:    2, 3, 4
+ *   Writes:  *changed: how many of the block's bytes have changed, 0 to 8. 0 for every bit but the last one of data.
  *   Changes: record (flag, chip record) and, with the last bit of data, eight bytes of memory.
  */
-uint32_t gbasave_eeprom_write(gbasave_record *record, uint8_t *memory, size_t memory_length, uint16_t value);
+uint32_t gbasave_eeprom_write(gbasave_record *record, uint8_t *memory, size_t memory_length, uint16_t value,
+                              uint32_t *changed);
 
 /*
  * Reads one bit. After a read command: 0 four times, then the block's 64 bits, highest first. If the kind has no
@@ -483,25 +505,28 @@ uint32_t gbasave_save_data(const gbasave_record *record, const uint8_t *memory, 
  * Imports a player's file, if its length is one that gbasave_save_fit takes for the kind. What is kept of the
  * file, without a footer, is loaded as gbasave_load_save does it. A footer is the file's last 16 bytes; it is not kept.
  *   Asks:    2, 3, 14
- *   Writes:  *kept: how many of the file's bytes were loaded.
+ *   Writes:  *kept: how many of the file's bytes were loaded. *changed: how many bytes of the memory have changed.
  *   Changes: memory; record (large). The flag and the part keep their values.
  */
 uint32_t gbasave_import_save(gbasave_record *record, uint8_t *memory, size_t memory_length, const uint8_t *file,
-                             size_t file_length, uint32_t *kept);
+                             size_t file_length, uint32_t *kept, uint32_t *changed);
 
 /*
  * Loads a file of any length, to resume a state. Every byte of the memory becomes FFh; then the file's first bytes are
  * written to its beginning, as many as there is room for. On EEPROM kinds a file longer than 512 bytes makes the chip
  * large. For kind NONE nothing happens.
  *   Asks:    2, 3
+ *   Writes:  *changed: how many bytes of the memory have changed: 0 if they are what was there already. Of a file of
+ *            0 bytes it is the number of bytes that were not FFh.
  *   Changes: memory; record (large). The flag and the part keep their values.
  */
 uint32_t gbasave_load_save(gbasave_record *record, uint8_t *memory, size_t memory_length, const uint8_t *file,
-                           size_t file_length);
+                           size_t file_length, uint32_t *changed);
 
 /*
- * Reads the changed flag and clears it. The flag is 1 if a write has stored anything since the flag was last taken.
- * Byte writes to an EEPROM kind, loads, imports and restores do not set it. The caller sets it when it resumes a state.
+ * Reads the changed flag and clears it. The flag is 1 if a write has stored anything since the flag was last taken, even
+ * what was there already. Byte writes to an EEPROM kind, loads, imports and restores do not set it. The caller sets it
+ * when it resumes a state.
  *   Asks:    2
  *   Writes:  *flag, 0 or 1.
  *   Changes: record: flag 0.

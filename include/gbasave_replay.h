@@ -20,6 +20,8 @@
  *                                   destination of that many zeros
  *     0A                            a cut                               nothing
  *
+ * The answers of 02, 04 and 08 have no number of changed bytes.
+ *
  * A CUT takes a state and resumes it. Its steps are gbasave_save_data and gbasave_chip_state; then gbasave_from_bytes
  * with the same image and the same part, gbasave_load_save with the file, if there is one, and
  * gbasave_restore_chip_state. Only the file and the 18 bytes are kept; everything else that the call before the cut

@@ -34,6 +34,11 @@ impl Call {
         self.refusal(kind, chip).is_some()
     }
 
+    /// Whether the call answers how many bytes it changed.
+    pub fn stores(&self) -> bool {
+        matches!(self, Call::Write(..) | Call::BitIn(_) | Call::Load { .. })
+    }
+
     /// The file that the call brings.
     pub fn file(&self) -> Vec<u8> {
         match *self {

@@ -73,7 +73,7 @@ static bool same_cartridge(const identity *a, const identity *b)
     return a->kind == b->kind && a->image_length == b->image_length && a->image_crc == b->image_crc;
 }
 
-uint32_t cartridge_resume(cartridge *cart, const saved_state *state)
+uint32_t cartridge_resume(cartridge *cart, const saved_state *state, uint32_t *changed)
 {
     if (!same_cartridge(&cart->id, &state->id))
         return OTHER_CARTRIDGE;
@@ -83,8 +83,9 @@ uint32_t cartridge_resume(cartridge *cart, const saved_state *state)
     uint32_t answer = gbasave_restore_chip_state(&cart->record, state->chip, sizeof state->chip);
     if (answer != GBASAVE_ACCEPTED)
         return answer;
+    *changed = 0;
     if (state->length > 0) {
-        accepted("load", gbasave_load_save(&cart->record, cart->memory, cart->length, state->file, state->length));
+        accepted("load", gbasave_load_save(&cart->record, cart->memory, cart->length, state->file, state->length, changed));
         cart->record.bytes[GBASAVE_RECORD_FLAG] = 1;
     }
     return gbasave_restore_chip_state(&cart->record, state->chip, sizeof state->chip);

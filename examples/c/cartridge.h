@@ -52,8 +52,9 @@ void drop_state(saved_state *state);
 
 /*
  * Resumes a state in an open cartridge of the same image and part, whatever was played on it. The file then counts as
- * changed. Returns 0, the number of a refusal, OTHER_CARTRIDGE or OTHER_PART. If it is not 0, the cartridge is unchanged.
+ * changed; *changed is how many bytes of the memory have changed. Returns 0, the number of a refusal, OTHER_CARTRIDGE or
+ * OTHER_PART. If it is not 0, the cartridge and *changed are unchanged.
  */
-uint32_t cartridge_resume(cartridge *cart, const saved_state *state);
+uint32_t cartridge_resume(cartridge *cart, const saved_state *state, uint32_t *changed);
 
 #endif

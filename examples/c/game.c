@@ -25,17 +25,19 @@ uint8_t read_byte(const cartridge *cart, uint32_t address)
     return (uint8_t)value;
 }
 
-void write_byte(cartridge *cart, uint32_t address, uint8_t value)
+uint32_t write_byte(cartridge *cart, uint32_t address, uint8_t value)
 {
-    accepted("byte write", gbasave_save_write(&cart->record, cart->memory, cart->length, address, value));
+    uint32_t changed;
+    accepted("byte write", gbasave_save_write(&cart->record, cart->memory, cart->length, address, value, &changed));
+    return changed;
 }
 
 /* A flash command: the two bytes that begin every command, then the command itself. */
-static void flash_command(cartridge *cart, uint32_t address, uint8_t command)
+static uint32_t flash_command(cartridge *cart, uint32_t address, uint8_t command)
 {
-    write_byte(cart, 0x0E005555, 0xAA);
-    write_byte(cart, 0x0E002AAA, 0x55);
-    write_byte(cart, address, command);
+    uint32_t changed = write_byte(cart, 0x0E005555, 0xAA);
+    changed += write_byte(cart, 0x0E002AAA, 0x55);
+    return changed + write_byte(cart, address, command);
 }
 
 void flash_id_mode(cartridge *cart, int on)
@@ -63,16 +65,22 @@ void flash_select_bank(cartridge *cart, uint8_t bank)
     write_byte(cart, 0x0E000000, bank);
 }
 
-void flash_program(cartridge *cart, uint32_t address, uint8_t value)
+uint32_t flash_program(cartridge *cart, uint32_t address, uint8_t value)
 {
-    flash_command(cart, 0x0E005555, 0xA0);
-    write_byte(cart, address, value);
+    uint32_t changed = flash_command(cart, 0x0E005555, 0xA0);
+    return changed + write_byte(cart, address, value);
 }
 
-void flash_erase_sector(cartridge *cart, uint32_t address)
+uint32_t flash_erase_sector(cartridge *cart, uint32_t address)
 {
-    flash_command(cart, 0x0E005555, 0x80);
-    flash_command(cart, address, 0x30);
+    uint32_t changed = flash_command(cart, 0x0E005555, 0x80);
+    return changed + flash_command(cart, address, 0x30);
+}
+
+uint32_t flash_erase_chip(cartridge *cart)
+{
+    uint32_t changed = flash_command(cart, 0x0E005555, 0x80);
+    return changed + flash_command(cart, 0x0E005555, 0x10);
 }
 
 /* Writes the lowest width bits of number, highest first. Returns the position after them. */
@@ -91,18 +99,23 @@ void eeprom_write_bits(uint8_t bits[WRITE_BITS], uint32_t block, uint64_t data)
     put_bits(bits, 0, 1);
 }
 
-void eeprom_send(cartridge *cart, const uint8_t *bits, int count)
+uint32_t eeprom_send(cartridge *cart, const uint8_t *bits, int count)
 {
-    for (int i = 0; i < count; i++)
-        accepted("bit in", gbasave_eeprom_write(&cart->record, cart->memory, cart->length, bits[i]));
+    uint32_t sum = 0;
+    for (int i = 0; i < count; i++) {
+        uint32_t changed;
+        accepted("bit in", gbasave_eeprom_write(&cart->record, cart->memory, cart->length, bits[i], &changed));
+        sum += changed;
+    }
+    return sum;
 }
 
-void eeprom_write_block(cartridge *cart, uint32_t block, uint64_t data)
+uint32_t eeprom_write_block(cartridge *cart, uint32_t block, uint64_t data)
 {
     uint8_t bits[WRITE_BITS];
     eeprom_write_bits(bits, block, data);
     accepted("DMA", gbasave_eeprom_begin_dma(&cart->record, WRITE_BITS));
-    eeprom_send(cart, bits, WRITE_BITS);
+    return eeprom_send(cart, bits, WRITE_BITS);
 }
 
 uint64_t eeprom_read_block(cartridge *cart, uint32_t block)

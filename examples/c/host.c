@@ -1,11 +1,12 @@
 /*
  * A small host. It opens images, saves on every chip, takes states in the middle of an 81-bit write and resumes them in a
- * fresh cartridge and in the open one. It gives a game the flash chip that the game looks for. It checks every answer; a
- * wrong one ends the program with status 1.
+ * fresh cartridge and in the open one. It gives a game the flash chip that the game looks for. It writes the file out when
+ * enough bytes have changed. It checks every answer; a wrong one ends the program with status 1.
  *
  *     host           runs the examples below, on images that the program makes
  *     host IMAGE     prints what is found in an image file
  */
+#include "budget.h"
 #include "check.h"
 #include "game.h"
 #include "parts.h"
@@ -76,7 +77,7 @@ static void sram_story(void)
 
     expect("nothing stored yet", !cartridge_take_changed(&cart));
     for (uint32_t i = 0; i < 4; i++)
-        write_byte(&cart, 0x0E000010 + i, (uint8_t)"SAVE"[i]);
+        expect("a byte changes", write_byte(&cart, 0x0E000010 + i, (uint8_t)"SAVE"[i]) == 1);
     for (uint32_t i = 0; i < 4; i++)
         expect("the bytes are stored, and read 32 KiB further on too",
                read_byte(&cart, 0x0E000010 + i) == "SAVE"[i] && read_byte(&cart, 0x0E008010 + i) == "SAVE"[i]);
@@ -84,14 +85,17 @@ static void sram_story(void)
     expect("the flag is taken once", cartridge_take_changed(&cart) && !cartridge_take_changed(&cart));
 
     /* Another cartridge imports the file, with a footer of 16 bytes that some programs add. The host keeps the footer. */
-    uint32_t length, kept;
+    uint32_t length, kept, changed;
     uint8_t *file = allocate(cart.length + FOOTER), *written = allocate(cart.length + FOOTER);
     accepted("export", gbasave_save_data(&cart.record, cart.memory, cart.length, file, cart.length, &length));
     memset(file + length, 0xEE, FOOTER);
     accepted("opening", cartridge_open(&other, image, IMAGE_LENGTH, GBASAVE_PART_USUAL));
-    accepted("import", gbasave_import_save(&other.record, other.memory, other.length, file, length + FOOTER, &kept));
-    printf("  a file of %" PRIu32 " bytes is imported elsewhere, %" PRIu32 " kept\n", length + FOOTER, kept);
+    accepted("import",
+             gbasave_import_save(&other.record, other.memory, other.length, file, length + FOOTER, &kept, &changed));
+    printf("  a file of %" PRIu32 " bytes is imported elsewhere, %" PRIu32 " kept, %" PRIu32 " changed\n", length + FOOTER,
+           kept, changed);
     same("the other memory", other.memory, cart.memory, cart.length);
+    expect("only the four bytes are another there", changed == 4);
     accepted("export", gbasave_save_data(&other.record, other.memory, other.length, written, other.length, &length));
     memcpy(written + length, file + kept, FOOTER);
     same("the file with its footer", written, file, length + FOOTER);
@@ -114,13 +118,13 @@ static void flash_story(void)
     flash_id_mode(&cart, 0);
     expect("the chip's numbers", flash_id_word(&cart) == 0x1362);
 
-    flash_program(&cart, 0x0E003000, 0x11);
+    expect("a byte changes", flash_program(&cart, 0x0E003000, 0x11) == 1);
     flash_select_bank(&cart, 1);
-    flash_program(&cart, 0x0E003000, 0x22);
-    flash_program(&cart, 0x0E004000, 0x33);
+    expect("a byte changes", flash_program(&cart, 0x0E003000, 0x22) == 1);
+    expect("a byte changes", flash_program(&cart, 0x0E004000, 0x33) == 1);
     printf("  programmed               bank 0, 3000h: %02X; bank 1, 3000h: %02X, 4000h: %02X\n", cart.memory[0x3000],
            read_byte(&cart, 0x0E003000), read_byte(&cart, 0x0E004000));
-    flash_erase_sector(&cart, 0x0E003000);
+    expect("one byte of the sector changes", flash_erase_sector(&cart, 0x0E003000) == 1);
     printf("  bank 1, 3000h erased     bank 0, 3000h: %02X; bank 1, 3000h: %02X, 4000h: %02X\n", cart.memory[0x3000],
            read_byte(&cart, 0x0E003000), read_byte(&cart, 0x0E004000));
     expect("one sector is erased", read_byte(&cart, 0x0E003000) == 0xFF && read_byte(&cart, 0x0E004000) == 0x33);
@@ -143,12 +147,13 @@ static saved_state played(const uint8_t *image, int cut, where resumed, bool sho
     cartridge cart;
     uint8_t bits[WRITE_BITS];
     int sent = 0;
+    uint32_t changed = 0, by_resuming;
     accepted("opening", cartridge_open(&cart, image, IMAGE_LENGTH, GBASAVE_PART_USUAL));
     eeprom_write_block(&cart, 3, EARLIER);
     eeprom_write_bits(bits, 100, DATA);
     accepted("DMA", gbasave_eeprom_begin_dma(&cart.record, WRITE_BITS));
     if (cut != UNCUT) {
-        eeprom_send(&cart, bits, cut);
+        changed = eeprom_send(&cart, bits, cut);
         sent = cut;
         saved_state state = take_state(&cart);
         if (shown) {
@@ -163,10 +168,11 @@ static saved_state played(const uint8_t *image, int cut, where resumed, bool sho
             accepted("DMA", gbasave_eeprom_begin_dma(&cart.record, WRITE_BITS));
             eeprom_send(&cart, bits, WRITE_BITS);
         }
-        accepted("resuming", cartridge_resume(&cart, &state));
+        accepted("resuming", cartridge_resume(&cart, &state, &by_resuming));
         drop_state(&state);
     }
-    eeprom_send(&cart, bits + sent, WRITE_BITS - sent);
+    changed += eeprom_send(&cart, bits + sent, WRITE_BITS - sent);
+    expect("the write changes the block's eight bytes, cut or uncut", changed == 8);
 
     uint64_t earlier = eeprom_read_block(&cart, 3), data = eeprom_read_block(&cart, 100);
     if (shown)
@@ -231,6 +237,7 @@ int main(int argc, char **argv)
     eeprom_story();
     state_story();
     part_story();
+    budget_story();
     refusals();
     empty_slices();
     return 0;

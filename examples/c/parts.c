@@ -59,8 +59,9 @@ static void not_opened(const uint8_t *image, uint32_t part)
 static void resume(const uint8_t *image, const picky_game *game, const saved_state *state)
 {
     cartridge cart;
+    uint32_t changed;
     accepted("opening", cartridge_open(&cart, image, IMAGE_LENGTH, state->id.part));
-    accepted("resuming", cartridge_resume(&cart, state));
+    accepted("resuming", cartridge_resume(&cart, state, &changed));
     const uint32_t found = read_id_word(&cart);
     expect("it is in ID mode, and the chip is the same", found == game->word);
     flash_id_mode(&cart, 0);

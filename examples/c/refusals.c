@@ -74,10 +74,17 @@ static void byte_refused(void)
 {
     pair p = open_pair("SRAM REFUSED", "SRAM_V");
     cartridge *cart = &p.cart;
+    uint32_t changed = UNTOUCHED;
     refused(&p, GBASAVE_REFUSED_MEMORY_LENGTH, "a byte write with a memory of 32,767 bytes",
-            gbasave_save_write(&cart->record, cart->memory, cart->length - 1, 0x0E000000, 1));
+            gbasave_save_write(&cart->record, cart->memory, cart->length - 1, 0x0E000000, 1, &changed));
+    expect("a refused write does not change the out-parameter", changed == UNTOUCHED);
     refused(&p, GBASAVE_REFUSED_NO_EEPROM, "a serial bit to SRAM",
-            gbasave_eeprom_write(&cart->record, cart->memory, cart->length, 1));
+            gbasave_eeprom_write(&cart->record, cart->memory, cart->length, 1, &changed));
+    expect("a refused bit does not change the out-parameter", changed == UNTOUCHED);
+    expect("a load is refused too",
+           gbasave_load_save(&cart->record, cart->memory, cart->length - 1, NULL, 0, &changed) ==
+                   GBASAVE_REFUSED_MEMORY_LENGTH &&
+               changed == UNTOUCHED);
     close_pair(&p);
 }
 
@@ -119,14 +126,15 @@ static void file_refused(void)
     pair p = open_pair("SRAM REFUSED", "SRAM_V");
     cartridge *cart = &p.cart;
     uint8_t *destination = allocate(cart->length);
-    uint32_t length = UNTOUCHED;
+    uint32_t length = UNTOUCHED, changed = UNTOUCHED;
     memset(destination, 0x5A, cart->length);
     refused(&p, GBASAVE_REFUSED_DESTINATION_LENGTH, "an export to 32,767 bytes",
             gbasave_save_data(&cart->record, cart->memory, cart->length, destination, cart->length - 1, &length));
     expect("a refused export changes neither destination nor out-parameter", destination[0] == 0x5A && length == UNTOUCHED);
     refused(&p, GBASAVE_REFUSED_FILE_LENGTH, "an import of 32,767 bytes",
-            gbasave_import_save(&cart->record, cart->memory, cart->length, destination, cart->length - 1, &length));
-    expect("a refused import does not change the out-parameter", length == UNTOUCHED);
+            gbasave_import_save(&cart->record, cart->memory, cart->length, destination, cart->length - 1, &length,
+                                &changed));
+    expect("a refused import does not change the out-parameters", length == UNTOUCHED && changed == UNTOUCHED);
     free(destination);
     close_pair(&p);
 }
@@ -179,23 +187,26 @@ static void empty_at(uint8_t *nowhere)
 {
     uint8_t *image = make_image("NO CHIP", "");
     gbasave_record record;
-    uint32_t value;
+    uint32_t value, changed;
     expect("no image", gbasave_from_bytes(&record, nowhere, 0, GBASAVE_PART_USUAL, nowhere, 0) == GBASAVE_REFUSED_IMAGE_LENGTH);
     accepted("size of no image", gbasave_save_size(nowhere, 0, &value));
     expect("no image has no memory", value == 0);
 
     accepted("opening", gbasave_from_bytes(&record, image, IMAGE_LENGTH, GBASAVE_PART_USUAL, nowhere, 0));
     expect("no chip", record.bytes[GBASAVE_RECORD_KIND] == GBASAVE_KIND_NONE);
-    accepted("byte write", gbasave_save_write(&record, nowhere, 0, 0x0E000000, 1));
+    accepted("byte write", gbasave_save_write(&record, nowhere, 0, 0x0E000000, 1, &changed));
+    expect("no byte changes", changed == 0);
     accepted("byte read", gbasave_save_read(&record, nowhere, 0, 0x0E000000, &value));
     expect("no chip reads FFh", value == 0xFF);
     accepted("bit out", gbasave_eeprom_read(&record, nowhere, 0, &value));
     expect("no chip reads bit 1", value == 1);
-    accepted("load of no bytes", gbasave_load_save(&record, nowhere, 0, nowhere, 0));
+    changed = 1;
+    accepted("load of no bytes", gbasave_load_save(&record, nowhere, 0, nowhere, 0, &changed));
+    expect("no byte changes", changed == 0);
     accepted("export", gbasave_save_data(&record, nowhere, 0, nowhere, 0, &value));
     expect("no file", value == 0);
     expect("import of no bytes",
-           gbasave_import_save(&record, nowhere, 0, nowhere, 0, &value) == GBASAVE_REFUSED_FILE_LENGTH);
+           gbasave_import_save(&record, nowhere, 0, nowhere, 0, &value, &changed) == GBASAVE_REFUSED_FILE_LENGTH);
     expect("state of no bytes", gbasave_restore_chip_state(&record, nowhere, 0) == GBASAVE_REFUSED_STATE_LENGTH);
     expect("title to no bytes", gbasave_title(image, IMAGE_LENGTH, nowhere, 0, &value) == GBASAVE_REFUSED_DESTINATION_LENGTH);
     free(image);

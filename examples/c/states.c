@@ -16,10 +16,13 @@ void same_states(const saved_state *a, const saved_state *b)
 void not_resumed(const char *what, cartridge *cart, const saved_state *state, uint32_t number)
 {
     saved_state before = take_state(cart);
-    expect(what, cartridge_resume(cart, state) == number);
+    const uint32_t untouched = 0xA5A5A5A5;
+    uint32_t changed = untouched;
+    expect(what, cartridge_resume(cart, state, &changed) == number);
     saved_state after = take_state(cart);
     same_states(&before, &after);
     expect("the flag is unchanged", !cartridge_take_changed(cart));
+    expect("there is no number of changed bytes", changed == untouched);
     printf("  %-24s not resumed: %s\n", what, answer_text(number));
     drop_state(&before);
     drop_state(&after);
@@ -30,6 +33,7 @@ void state_story(void)
     uint8_t *image = make_image("STATE STORY", "SRAM_V");
     uint8_t *same_kind = make_image("OTHER STORY", "SRAM_V"), *other_kind = make_image("OTHER STORY", "FLASH_V");
     cartridge cart, other;
+    uint32_t changed;
     printf("States\n");
     accepted("opening", cartridge_open(&cart, image, IMAGE_LENGTH, GBASAVE_PART_USUAL));
     write_byte(&cart, 0x0E000000, 0x5A);
@@ -38,15 +42,15 @@ void state_story(void)
 
     /* The file has not been written out, and the state has no changed flag. */
     accepted("opening", cartridge_open(&cart, image, IMAGE_LENGTH, GBASAVE_PART_USUAL));
-    accepted("resuming", cartridge_resume(&cart, &state));
-    expect("the byte is there", read_byte(&cart, 0x0E000000) == 0x5A);
+    accepted("resuming", cartridge_resume(&cart, &state, &changed));
+    expect("the byte is there", read_byte(&cart, 0x0E000000) == 0x5A && changed == 1);
     expect("the file counts as changed, once", cartridge_take_changed(&cart) && !cartridge_take_changed(&cart));
     printf("  in a fresh cartridge     resumed; the file counts as changed\n");
 
     write_byte(&cart, 0x0E000000, 0xA5);
     expect("the file is written out", cartridge_take_changed(&cart));
-    accepted("resuming", cartridge_resume(&cart, &state));
-    expect("the byte is there again", read_byte(&cart, 0x0E000000) == 0x5A);
+    accepted("resuming", cartridge_resume(&cart, &state, &changed));
+    expect("the byte is there again", read_byte(&cart, 0x0E000000) == 0x5A && changed == 1);
     expect("the file counts as changed, once", cartridge_take_changed(&cart) && !cartridge_take_changed(&cart));
     printf("  in the open cartridge    resumed; the file counts as changed\n");
 

@@ -51,18 +51,21 @@ static void no_memory()
     const bytes image = image_with("");
     bytes memory, file;
     gbasave_record record;
-    std::uint32_t value = 7;
+    std::uint32_t value = 7, changed = 7;
     expect("opening", gbasave_from_bytes(&record, image.data(), image.size(), GBASAVE_PART_USUAL, memory.data(), 0) == 0);
     expect("kind NONE", record.bytes[GBASAVE_RECORD_KIND] == GBASAVE_KIND_NONE);
     expect("the usual part", record.bytes[GBASAVE_RECORD_PART] == GBASAVE_PART_USUAL);
     expect("no ID word", gbasave_id_word(GBASAVE_PART_USUAL, GBASAVE_KIND_NONE, &value) == 0 && value == 0);
-    expect("byte write", gbasave_save_write(&record, memory.data(), 0, 0x0E000000, 1) == 0);
+    expect("byte write", gbasave_save_write(&record, memory.data(), 0, 0x0E000000, 1, &changed) == 0 && changed == 0);
     expect("byte read", gbasave_save_read(&record, memory.data(), 0, 0x0E000000, &value) == 0 && value == 0xFF);
     expect("bit out", gbasave_eeprom_read(&record, memory.data(), 0, &value) == 0 && value == 1);
-    expect("bit in", gbasave_eeprom_write(&record, memory.data(), 0, 1) == GBASAVE_REFUSED_NO_EEPROM);
-    expect("load", gbasave_load_save(&record, memory.data(), 0, file.data(), 0) == 0);
+    changed = 7;
+    expect("bit in", gbasave_eeprom_write(&record, memory.data(), 0, 1, &changed) == GBASAVE_REFUSED_NO_EEPROM);
+    expect("a refused bit writes no number", changed == 7);
+    expect("load", gbasave_load_save(&record, memory.data(), 0, file.data(), 0, &changed) == 0 && changed == 0);
     expect("export", gbasave_save_data(&record, memory.data(), 0, file.data(), 0, &value) == 0 && value == 0);
-    expect("import", gbasave_import_save(&record, memory.data(), 0, file.data(), 0, &value) == GBASAVE_REFUSED_FILE_LENGTH);
+    expect("import",
+           gbasave_import_save(&record, memory.data(), 0, file.data(), 0, &value, &changed) == GBASAVE_REFUSED_FILE_LENGTH);
     expect("restore", gbasave_restore_chip_state(&record, file.data(), 0) == GBASAVE_REFUSED_STATE_LENGTH);
     expect("title", gbasave_title(image.data(), image.size(), file.data(), 0, &value) == 0 && value == 0);
     std::puts("kind NONE with an empty memory: opens, plays, loads and exports no bytes");
@@ -104,7 +107,7 @@ static void no_file(const std::string &marker)
     const bytes image = image_with(marker);
     bytes nothing;
     gbasave_record record;
-    std::uint32_t size, value = 7;
+    std::uint32_t size, value = 7, changed = 7;
     expect("size", gbasave_save_size(image.data(), image.size(), &size) == 0 && size > 0);
     bytes memory(size, 0x5A);
     expect("opening, empty memory",
@@ -113,19 +116,20 @@ static void no_file(const std::string &marker)
     expect("opening",
            gbasave_from_bytes(&record, image.data(), image.size(), GBASAVE_PART_USUAL, memory.data(), memory.size()) == 0);
     memory.assign(size, 0x5A);
-    expect("import",
-           gbasave_import_save(&record, memory.data(), size, nothing.data(), 0, &value) == GBASAVE_REFUSED_FILE_LENGTH);
+    expect("import", gbasave_import_save(&record, memory.data(), size, nothing.data(), 0, &value, &changed) ==
+                         GBASAVE_REFUSED_FILE_LENGTH);
     expect("export",
            gbasave_save_data(&record, memory.data(), size, nothing.data(), 0, &value) == GBASAVE_REFUSED_DESTINATION_LENGTH);
     expect("byte read", gbasave_save_read(&record, nothing.data(), 0, 0, &value) == GBASAVE_REFUSED_MEMORY_LENGTH);
-    expect("byte write", gbasave_save_write(&record, nothing.data(), 0, 0, 1) == GBASAVE_REFUSED_MEMORY_LENGTH);
+    expect("byte write", gbasave_save_write(&record, nothing.data(), 0, 0, 1, &changed) == GBASAVE_REFUSED_MEMORY_LENGTH);
     expect("bit out", gbasave_eeprom_read(&record, nothing.data(), 0, &value) == GBASAVE_REFUSED_MEMORY_LENGTH);
-    expect("bit in", gbasave_eeprom_write(&record, nothing.data(), 0, 1) == GBASAVE_REFUSED_MEMORY_LENGTH);
+    expect("bit in", gbasave_eeprom_write(&record, nothing.data(), 0, 1, &changed) == GBASAVE_REFUSED_MEMORY_LENGTH);
     expect("load, empty memory",
-           gbasave_load_save(&record, nothing.data(), 0, nothing.data(), 0) == GBASAVE_REFUSED_MEMORY_LENGTH);
-    expect("refused calls change nothing", value == 7 && memory == bytes(size, 0x5A));
-    expect("load", gbasave_load_save(&record, memory.data(), size, nothing.data(), 0) == 0);
-    expect("an empty file erases", memory == bytes(size, 0xFF));
+           gbasave_load_save(&record, nothing.data(), 0, nothing.data(), 0, &changed) == GBASAVE_REFUSED_MEMORY_LENGTH);
+    expect("refused calls change nothing", value == 7 && changed == 7 && memory == bytes(size, 0x5A));
+    expect("load", gbasave_load_save(&record, memory.data(), size, nothing.data(), 0, &changed) == 0);
+    expect("an empty file erases, and changes every byte", memory == bytes(size, 0xFF) && changed == size);
+    expect("load", gbasave_load_save(&record, memory.data(), size, nothing.data(), 0, &changed) == 0 && changed == 0);
     std::printf("%s: an empty file erases the memory; an empty memory, destination or import is refused\n", marker.c_str());
 }
 

@@ -22,11 +22,25 @@ extern "C" {
         memory_len: usize,
     ) -> u32;
     pub fn gbasave_save_read(record: &Record, memory: *const u8, memory_len: usize, address: u32, value: &mut u32) -> u32;
-    pub fn gbasave_save_write(record: &mut Record, memory: *mut u8, memory_len: usize, address: u32, value: u8) -> u32;
+    pub fn gbasave_save_write(
+        record: &mut Record,
+        memory: *mut u8,
+        memory_len: usize,
+        address: u32,
+        value: u8,
+        changed: &mut u32,
+    ) -> u32;
     pub fn gbasave_eeprom_begin_dma(record: &mut Record, words: u32) -> u32;
-    pub fn gbasave_eeprom_write(record: &mut Record, memory: *mut u8, memory_len: usize, value: u16) -> u32;
+    pub fn gbasave_eeprom_write(record: &mut Record, memory: *mut u8, memory_len: usize, value: u16, changed: &mut u32) -> u32;
     pub fn gbasave_eeprom_read(record: &mut Record, memory: *const u8, memory_len: usize, bit: &mut u32) -> u32;
-    pub fn gbasave_load_save(record: &mut Record, memory: *mut u8, memory_len: usize, file: *const u8, file_len: usize) -> u32;
+    pub fn gbasave_load_save(
+        record: &mut Record,
+        memory: *mut u8,
+        memory_len: usize,
+        file: *const u8,
+        file_len: usize,
+        changed: &mut u32,
+    ) -> u32;
     pub fn gbasave_save_data(
         record: &Record,
         memory: *const u8,
@@ -42,6 +56,7 @@ extern "C" {
         file: *const u8,
         file_len: usize,
         kept: &mut u32,
+        changed: &mut u32,
     ) -> u32;
     pub fn gbasave_chip_state(record: &Record, bytes: &mut [u8; 18]) -> u32;
     pub fn gbasave_restore_chip_state(record: &mut Record, bytes: *const u8, length: usize) -> u32;

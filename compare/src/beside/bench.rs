@@ -101,6 +101,12 @@ fn answered(answer: Answer) -> u32 {
     answer.value
 }
 
+/// How many bytes a call changed that has to be accepted, as a host with a budget takes it. An earlier part of before that number leaves the place.
+fn stored(answer: Answer) -> u32 {
+    answered(answer);
+    answer.changed.unwrap_or_default()
+}
+
 #[cold]
 #[inline(never)]
 fn refused(refusal: u32) -> ! {

@@ -18,7 +18,7 @@ use compare::kind;
 use pair::Pair;
 use run::{Fault, Run};
 
-const USAGE: &str = "usage: beside [--seed HEX] [--fault rust | part | replay]
+const USAGE: &str = "usage: beside [--seed HEX] [--fault rust | part | replay | count]
        beside bench WORDS LINK... [--before LINK...]
        beside rows WORDS";
 
@@ -54,6 +54,7 @@ fn arguments(words: &[&str]) -> Run {
             ["--fault", "rust"] => fault = Fault::Rust,
             ["--fault", "part"] => fault = Fault::Part,
             ["--fault", "replay"] => fault = Fault::Replay,
+            ["--fault", "count"] => fault = Fault::Count,
             _ => usage(),
         }
     }

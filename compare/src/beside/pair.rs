@@ -1,4 +1,5 @@
-//! A cartridge on both sides. After every call answer, chip record, flag, save memory and exported file are compared.
+//! A cartridge on both sides. After every call answer, chip record, flag, save memory and exported file are compared. The original does not
+//! tell how many bytes a call changed: after every call that stores, its memory is compared with a copy from before, byte by byte.
 
 use crate::abi::{CHIP, PART, USUAL_PART};
 use crate::original::Original;
@@ -7,7 +8,7 @@ use crate::run::{Fault, Run};
 use crate::side::{Answer, Side};
 use compare::call::Call;
 use compare::files;
-use compare::kind::{Kind, MEMORY, NAMES};
+use compare::kind::{Kind, MEMORY, NAMES, SRAM};
 use compare::original as rust;
 use compare::records::{hex, Chip};
 
@@ -24,6 +25,8 @@ pub struct Pair<'a> {
     /// The lengths that import takes, with what it keeps of them.
     fits: Vec<(u32, usize)>,
     recent: [Option<Call>; RECENT],
+    /// The original's memory after the last call that stores. No other call changes it; if one did, the next count would show it.
+    before: Vec<u8>,
 }
 
 impl<'a> Pair<'a> {
@@ -37,6 +40,7 @@ impl<'a> Pair<'a> {
             run,
             kind,
             fresh: rust::chip_state(&cart),
+            before: cart.memory().to_vec(),
             original: Original::new(cart),
             part,
             identity: [a, b, c, d, kind],
@@ -82,7 +86,10 @@ impl<'a> Pair<'a> {
         self.recent.rotate_left(1);
         self.recent[RECENT - 1] = Some(call);
         let file = call.file();
-        let answers = [self.original.call(&call, &file), self.part.call(&call, &file)];
+        let mut answers = [self.original.call(&call, &file), self.part.call(&call, &file)];
+        if call.stores() {
+            answers[0] = answers[0].with_changed(self.changed(&call));
+        }
         self.seed_fault(&call);
         self.compare(answers, || call.frame());
         if let Call::Export = call {
@@ -98,7 +105,17 @@ impl<'a> Pair<'a> {
     pub fn import(&mut self, (length, kept): (u32, usize), seed: u8) {
         let file = files::file(length, seed);
         let answers = [self.original.import(&file, kept), self.part.import(&file, kept)];
+        let answers = [answers[0].with_changed(count(&mut self.before, self.original.memory())), answers[1]];
         self.compare(answers, || format!("import of {length} bytes with seed {seed}"));
+    }
+
+    /// How many bytes of the original's memory the call changed, or with the fault one wrong number.
+    fn changed(&mut self, call: &Call) -> u32 {
+        let changed = count(&mut self.before, self.original.memory());
+        match (self.run.fault, call) {
+            (Fault::Count, Call::Write(..)) if self.kind == SRAM => 1,
+            _ => changed,
+        }
     }
 
     fn seed_fault(&mut self, call: &Call) {
@@ -160,6 +177,20 @@ impl<'a> Pair<'a> {
             (original, _) => Some(format!("a file from the {} alone", if original.is_some() { "original" } else { "part" })),
         }
     }
+}
+
+/// How many bytes of a memory are others than before; `before` then has them too. It looks at the whole memory. Most calls leave most of it, and equal
+/// bytes are compared many at a time.
+fn count(before: &mut [u8], memory: &[u8]) -> u32 {
+    const PIECE: usize = 4096;
+    let mut changed = 0;
+    for (before, now) in before.chunks_mut(PIECE).zip(memory.chunks(PIECE)) {
+        if before != now {
+            changed += before.iter().zip(now).filter(|(before, now)| before != now).count();
+            before.copy_from_slice(now);
+        }
+    }
+    changed as u32
 }
 
 /// Where two pieces of bytes first differ.

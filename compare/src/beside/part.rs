@@ -11,12 +11,26 @@ pub struct Part {
     file: Vec<u8>,
 }
 
-/// The answer of a call that writes its value to a place, in which stands what no call answers.
+/// In places before a call. No call answers it.
+const UNWRITTEN: u32 = 0xEEEE_EEEE;
+
+/// The answer of a call that writes its value to a place.
 pub fn answer(call: impl FnOnce(&mut u32) -> u32) -> Answer {
-    let mut value = 0xEEEE_EEEE;
+    let mut value = UNWRITTEN;
     match call(&mut value) {
         0 => Answer::value(value),
         refusal => Answer::refusal(refusal),
+    }
+}
+
+/// The answer of a call that stores, and writes to a place how many bytes it changed. A refused call leaves the place.
+fn stored(call: impl FnOnce(&mut u32) -> Answer) -> Answer {
+    let mut changed = UNWRITTEN;
+    let answer = call(&mut changed);
+    if answer.refusal == 0 || changed != UNWRITTEN {
+        answer.with_changed(changed)
+    } else {
+        answer
     }
 }
 
@@ -44,7 +58,9 @@ impl Part {
 
     pub fn save_write(&mut self, address: u32, value: u8) -> Answer {
         let (memory, length) = (self.memory.as_mut_ptr(), self.memory.len());
-        Answer::refusal(unsafe { gbasave_save_write(&mut self.record, memory, length, address, value) })
+        stored(|changed| {
+            Answer::refusal(unsafe { gbasave_save_write(&mut self.record, memory, length, address, value, changed) })
+        })
     }
 
     pub fn eeprom_begin_dma(&mut self, words: u16) -> Answer {
@@ -53,7 +69,7 @@ impl Part {
 
     pub fn eeprom_write(&mut self, value: u16) -> Answer {
         let (memory, length) = (self.memory.as_mut_ptr(), self.memory.len());
-        Answer::refusal(unsafe { gbasave_eeprom_write(&mut self.record, memory, length, value) })
+        stored(|changed| Answer::refusal(unsafe { gbasave_eeprom_write(&mut self.record, memory, length, value, changed) }))
     }
 
     pub fn eeprom_read(&mut self) -> Answer {
@@ -63,12 +79,16 @@ impl Part {
 
     pub fn load_save(&mut self, file: &[u8]) -> Answer {
         let (memory, length) = (self.memory.as_mut_ptr(), self.memory.len());
-        Answer::refusal(unsafe { gbasave_load_save(&mut self.record, memory, length, file.as_ptr(), file.len()) })
+        let (from, size) = (file.as_ptr(), file.len());
+        stored(|changed| Answer::refusal(unsafe { gbasave_load_save(&mut self.record, memory, length, from, size, changed) }))
     }
 
     pub fn import_save(&mut self, file: &[u8]) -> Answer {
         let (memory, length) = (self.memory.as_mut_ptr(), self.memory.len());
-        answer(|kept| unsafe { gbasave_import_save(&mut self.record, memory, length, file.as_ptr(), file.len(), kept) })
+        let (from, size) = (file.as_ptr(), file.len());
+        stored(|changed| {
+            answer(|kept| unsafe { gbasave_import_save(&mut self.record, memory, length, from, size, kept, changed) })
+        })
     }
 
     pub fn save_data(&self, destination: &mut [u8]) -> Answer {
@@ -144,7 +164,7 @@ impl Side for Part {
         let answer = self.save_data(&mut file);
         self.file = file;
         match answer {
-            Answer { refusal: 0, value } if value > 0 => Some(&self.file[..value as usize]),
+            Answer { refusal: 0, value, .. } if value > 0 => Some(&self.file[..value as usize]),
             _ => None,
         }
     }

@@ -12,6 +12,8 @@ pub enum Fault {
     Part,
     /// The replay's cuts restore nothing.
     Replay,
+    /// A byte that is stored in SRAM counts as changed, also if it was there already.
+    Count,
 }
 
 pub struct Run {

@@ -7,23 +7,33 @@ use compare::records::Chip;
 pub struct Answer {
     pub refusal: u32,
     pub value: u32,
+    /// How many bytes of the save memory the call changed, if it is one that stores.
+    pub changed: Option<u32>,
 }
 
 impl Answer {
     pub fn value(value: u32) -> Self {
-        Self { refusal: 0, value }
+        Self { refusal: 0, value, changed: None }
     }
 
     pub fn refusal(refusal: u32) -> Self {
-        Self { refusal, value: 0 }
+        Self { refusal, value: 0, changed: None }
+    }
+
+    pub fn with_changed(self, changed: u32) -> Self {
+        Self { changed: Some(changed), ..self }
     }
 }
 
 impl std::fmt::Display for Answer {
     fn fmt(&self, f: &mut std::fmt::Formatter) -> std::fmt::Result {
         match self.refusal {
-            0 => write!(f, "accepted, {:X}h", self.value),
-            refusal => write!(f, "refused, {refusal}"),
+            0 => write!(f, "accepted, {:X}h", self.value)?,
+            refusal => write!(f, "refused, {refusal}")?,
+        }
+        match self.changed {
+            Some(changed) => write!(f, ", {changed} bytes changed"),
+            None => Ok(()),
         }
     }
 }

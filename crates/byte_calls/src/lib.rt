@@ -7,7 +7,8 @@ ghost use mathlib.Core.Path.{_≡_};
 ghost use mathlib.Core.List.{[]};
 ghost use lib.ListN.{length};
 ghost use Rattle.kind.specs.Kind.{memorySize};
-ghost use Rattle.cart.specs.Calls.{saveRead, saveWrite, readSave, writeSave, step};
+ghost use Rattle.cart.specs.Record.{counted};
+ghost use Rattle.cart.specs.Calls.{saveRead, saveWrite, readSave, accepted, step};
 ghost use Rattle.cart.specs.Replies.{state, replied};
 
 fn read_save(cart: Cartridge, memory: &[u8], address: u32) -> u8
@@ -32,10 +33,11 @@ pub fn save_read(cart: Cartridge, memory: &[u8], address: u32) -> Reply
     cart::done(read_save(cart, memory, address) as u32, cart)
 }
 
-fn write_save(cart: Cartridge, memory: &mut [u8], address: u32, value: u8) -> Cartridge
+// An accepted `save_write`.
+fn write_save(cart: Cartridge, memory: &mut [u8], address: u32, value: u8) -> Reply
     requires { ⌜ length (now memory) ≡ memorySize (cart .kind) ⌝ }
-    ensures { λ r. ⌜ state r (now (memory .exit))
-        ≡ writeSave (cart .kind) (state cart (now (memory .entry))) address value ⌝ }
+    ensures { λ r. ⌜ (let s = state cart (now (memory .entry)) in
+        (r, now (memory .exit)) ≡ replied (counted s (accepted (saveWrite address value) [] s))) ⌝ }
 {
     let kind = cart.kind;
     let chip = cart.chip;
@@ -43,8 +45,8 @@ fn write_save(cart: Cartridge, memory: &mut [u8], address: u32, value: u8) -> Ca
     let t = byte_step::write_byte(kind, flash, memory.len(), address, value);
     let store = t.store;
     let next = t.flash;
-    memory::apply(store, &NO_FILE, memory);
-    cart::with_flash(cart, memory::flag_after(t.sets, cart.dirty), next)
+    let changed = memory::apply(store, &NO_FILE, memory);
+    cart::stored(changed, cart::with_flash(cart, memory::flag_after(t.sets, cart.dirty), next))
 }
 
 pub fn save_write(cart: Cartridge, memory: &mut [u8], address: u32, value: u8) -> Reply
@@ -55,5 +57,5 @@ pub fn save_write(cart: Cartridge, memory: &mut [u8], address: u32, value: u8) -
     if refusal != 0 {
         return cart::refuse(refusal, cart);
     }
-    cart::done(0, write_save(cart, memory, address, value))
+    write_save(cart, memory, address, value)
 }

@@ -5,14 +5,14 @@ use mathlib.Core.List.{List, []}
 use Prim.Native.Nat.{ℕ}
 use native.Mathlib.Omega.{arith}
 use lib.ListN.{length}
-use Rattle.memory.specs.Memory.{stored}
+use Rattle.memory.specs.Memory.{stored, withCount}
 use Rattle.kind.specs.Kind.{memorySize}
 use Rattle.byte_step.specs.declared.ByteStep.{ByteStep}
 use Rattle.byte_step.specs.ByteStep.{readByte, writeStep}
 use Rattle.cart.specs.Calls.{saveRead, saveWrite, readSave, writeSave, questions, accepted}
 use Rattle.c_record.specs.RecordBytes.{cartOf, Valid}
 use Rattle.c_record.specs.Fields.{withFlash, withId}
-use Rattle.c_record.specs.AtExit.{plain, valueAt}
+use Rattle.c_record.specs.AtExit.{valueAt, changedAt}
 use Rattle.c_record.specs.Calls.{reads, writes}
 use Rattle.c_record.proofs.FieldBytes.{put-flash}
 use Rattle.c_record.proofs.Calls.{memory-no, memory-yes, refused, done}
@@ -24,9 +24,9 @@ module _ (r m : List ℕ) (v : Valid r) where
     unfolding questions
     read-no a place = ap (valueAt place) (refused (saveRead a) [] r m v 3 (memory-no r m v [] n) (λ z. omega (arith, z)))
 
-    pub write-no : (a x : ℕ) → (3, r, m) ≡ writes a x r m
+    pub write-no : (a x place : ℕ) → (3, r, m, place) ≡ writes a x r m place
     unfolding questions
-    write-no a x = ap plain (refused (saveWrite a x) [] r m v 3 (memory-no r m v [] n) (λ z. omega (arith, z)))
+    write-no a x place = ap (changedAt place) (refused (saveWrite a x) [] r m v 3 (memory-no r m v [] n) (λ z. omega (arith, z)))
 
   -- and yes
   module _ (n : length m ≡ memorySize (cartOf r .kind)) where
@@ -35,12 +35,12 @@ module _ (r m : List ℕ) (v : Valid r) where
     read-yes a place x e =
         (λ i. (0, sym (v .back) i, m, e i)) ∙ ap (valueAt place) (done (saveRead a) [] r m v (memory-yes r m v [] n))
 
-    pub write-yes : (a x : ℕ) (t : ByteStep) {r' m' : List ℕ}
+    pub write-yes : (a x place : ℕ) (t : ByteStep) {k : ℕ} {r' m' : List ℕ}
         → t ≡ writeStep (cartOf r .kind) (cartOf r .chip .flash) (length m) a x
         → r' ≡ withId (withFlash r (t .sets) (t .flash)) (t .flash .id)
-        → m' ≡ stored (t .store) [] m
-        → (0, r', m') ≡ writes a x r m
+        → (k, m') ≡ withCount m (stored (t .store) [] m)
+        → (0, r', m', k) ≡ writes a x r m place
     unfolding questions accepted writeSave
-    write-yes a x t {r'} {m'} e p q =
+    write-yes a x place t e p q =
         let b = p ∙ ap (λ (l : List ℕ). withId (withFlash l (t .sets) (t .flash)) (t .flash .id)) (sym (v .back)) ∙ put-flash (cartOf r) (t .sets) (t .flash) in
-        (λ i. (0, b i, q i)) ∙ rw e (ap plain (done (saveWrite a x) [] r m v (memory-yes r m v [] n)))
+        (λ i. (0, b i, q i .1, q i .0)) ∙ rw e (ap (changedAt place) (done (saveWrite a x) [] r m v (memory-yes r m v [] n)))

@@ -75,10 +75,16 @@ pub fn save_read(cart: &RecordBytes, memory: &[u8], address: u32, value: &mut u3
 }
 
 // The record is updated first, so that nothing stays live across an erase.
-fn write_valid(cart: &mut RecordBytes, memory: &mut [u8], address: u32, value: u8) -> u32
+fn write_valid(
+    cart: &mut RecordBytes,
+    memory: &mut [u8],
+    address: u32,
+    value: u8,
+    changed: &mut u32,
+) -> u32
     requires { ⌜ Valid (now cart) ⌝ }
-    ensures { λ x. ⌜ (x, now (cart .exit), now (memory .exit))
-        ≡ writes address value (now (cart .entry)) (now (memory .entry)) ⌝ }
+    ensures { λ x. ⌜ (x, now (cart .exit), now (memory .exit), now (changed .exit))
+        ≡ writes address value (now (cart .entry)) (now (memory .entry)) (now (changed .entry)) ⌝ }
 {
     let kind = c_record::kind_in(cart);
     if memory.len() != kind::memory_size(kind) {
@@ -89,30 +95,42 @@ fn write_valid(cart: &mut RecordBytes, memory: &mut [u8], address: u32, value: u
     let store = t.store;
     let next = t.flash;
     c_record::put_flash(cart, t.sets, next);
-    memory::apply(store, &NO_FILE, memory);
+    *changed = memory::apply(store, &NO_FILE, memory);
     c_record::put_bit(cart, layout::ID_MODE, flash.id, next.id);
     0
 }
 
-fn write_any(cart: &mut RecordBytes, memory: &mut [u8], address: u32, value: u8) -> u32
-    ensures { λ x. ⌜ (x, now (cart .exit), now (memory .exit))
-        ≡ writes address value (now (cart .entry)) (now (memory .entry)) ⌝ }
+fn write_any(
+    cart: &mut RecordBytes,
+    memory: &mut [u8],
+    address: u32,
+    value: u8,
+    changed: &mut u32,
+) -> u32
+    ensures { λ x. ⌜ (x, now (cart .exit), now (memory .exit), now (changed .exit))
+        ≡ writes address value (now (cart .entry)) (now (memory .entry)) (now (changed .entry)) ⌝ }
 {
     if !c_record::is_record(cart) {
         return 2;
     }
-    write_valid(cart, &mut memory[..], address, value)
+    write_valid(cart, &mut memory[..], address, value, changed)
 }
 
-pub fn save_write(cart: &mut RecordBytes, memory: &mut [u8], address: u32, value: u8) -> u32
-    ensures { λ x. ⌜ (x, now (cart .exit), now (memory .exit))
-        ≡ writes address value (now (cart .entry)) (now (memory .entry)) ⌝ }
+pub fn save_write(
+    cart: &mut RecordBytes,
+    memory: &mut [u8],
+    address: u32,
+    value: u8,
+    changed: &mut u32,
+) -> u32
+    ensures { λ x. ⌜ (x, now (cart .exit), now (memory .exit), now (changed .exit))
+        ≡ writes address value (now (cart .entry)) (now (memory .entry)) (now (changed .entry)) ⌝ }
 {
     if !quick_tests::known(cart) {
-        return write_any(cart, memory, address, value);
+        return write_any(cart, memory, address, value, changed);
     }
     if !quick_tests::bytes_usual(cart) {
-        return write_any(cart, memory, address, value);
+        return write_any(cart, memory, address, value, changed);
     }
-    write_valid(cart, memory, address, value)
+    write_valid(cart, memory, address, value, changed)
 }

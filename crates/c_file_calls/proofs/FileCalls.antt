@@ -12,19 +12,19 @@ use borrow.Author.Tests.{eq-eqb, ne-eqb, le-leb, lt-leb}
 use Rattle.lists.specs.Lists.{into}
 use Rattle.lists.specs.Questions.{asked}
 use Rattle.memory.specs.declared.Store.the-variants.{File}
-use Rattle.memory.specs.Memory.{stored}
+use Rattle.memory.specs.Memory.{stored, withCount}
 use Rattle.kind.specs.Kind.{memorySize}
 use Rattle.file_sizes.specs.SaveFit.{saveFit, taken, keptPart}
 use Rattle.cart.specs.declared.Reply.{Reply}
 use Rattle.cart.specs.ChipState.{chipOf}
-use Rattle.cart.specs.Record.{State}
+use Rattle.cart.specs.Record.{State, counted}
 use Rattle.cart.specs.Calls.{loadSave, saveData, largeAfter, load, fileOf, exported, questions, accepted, importSave}
 use Rattle.cart.specs.Replies.{exportReplied}
 use Rattle.file_calls.specs.Files.{fileLength}
 use Rattle.file_calls.proofs.Exports.{holds-is, exported-is}
 use Rattle.c_record.specs.RecordBytes.{recordBytes, cartOf, Valid, stateOf}
 use Rattle.c_record.specs.Fields.{withLarge}
-use Rattle.c_record.specs.AtExit.{left, called, plain, exportAt}
+use Rattle.c_record.specs.AtExit.{left, called, changedAt, exportAt}
 use Rattle.c_record.specs.Calls.{loads, exports, imports}
 use Rattle.c_record.proofs.RecordBytes.{chip-at}
 use Rattle.c_record.proofs.FieldBytes.{put-large}
@@ -42,23 +42,26 @@ exported-at : (f : Option (List ℕ)) (d : List ℕ) (s : State) (place : ℕ)
 exported-at none d s place = refl
 exported-at (some f) d s place = refl
 
+-- what an accepted load leaves and answers
+abbrev loaded : List ℕ → List ℕ → List ℕ → ℕ × List ℕ × List ℕ × ℕ
+loaded f r m = changedAt 0 (left (counted (stateOf r m) (accepted (loadSave f) [] (stateOf r m))))
+
 module _ (r m : List ℕ) (v : Valid r) where
-  -- an accepted load
-  pub load-valid : (f : List ℕ) (large : Bool) {r' m' : List ℕ}
+  pub load-valid : (f : List ℕ) (large : Bool) {n : ℕ} {r' m' : List ℕ}
       → large ≡ largeAfter (cartOf r .kind) (cartOf r .chip .eeprom .large) (length f)
       → r' ≡ withLarge r large
-      → m' ≡ stored File f m
-      → (0, r', m') ≡ plain (left (accepted (loadSave f) [] (stateOf r m)))
+      → (n, m') ≡ withCount m (stored File f m)
+      → (0, r', m', n) ≡ loaded f r m
   unfolding accepted load
-  load-valid f large {r'} {m'} e p q =
+  load-valid f large e p q =
       let b = p ∙ ap (λ (l : List ℕ). withLarge l large) (sym (v .back)) ∙ put-large (cartOf r) large in
-      (λ i. (0, b i, q i)) ∙ rw e
+      (λ i. (0, b i, q i .1, q i .0)) ∙ rw e
 
   -- question 3 is answered no
   module _ (n : length m ≢ memorySize (cartOf r .kind)) where
-    pub load-no : (f : List ℕ) → (3, r, m) ≡ loads f r m
+    pub load-no : (f : List ℕ) (place : ℕ) → (3, r, m, place) ≡ loads f r m place
     unfolding questions
-    load-no f = ap plain (refused (loadSave f) [] r m v 3 (memory-no r m v [] n) (λ z. omega (arith, z)))
+    load-no f place = ap (changedAt place) (refused (loadSave f) [] r m v 3 (memory-no r m v [] n) (λ z. omega (arith, z)))
 
     pub export-no : (d : List ℕ) (place : ℕ) → (3, r, m, d, place) ≡ exports d r m place
     unfolding questions
@@ -66,15 +69,16 @@ module _ (r m : List ℕ) (v : Valid r) where
         ap (exportAt place)
         (refused saveData d r m v 3 (rw (v .allowed, ne-eqb (length m) (memorySize (cartOf r .kind)) n)) (λ z. omega (arith, z)))
 
-    pub import-no : (f : List ℕ) (place : ℕ) → (3, r, m, place) ≡ imports f r m place
+    pub import-no : (f : List ℕ) (kept place : ℕ) → (3, r, m, kept, place) ≡ imports f r m kept place
     unfolding called importSave
-    import-no f place = rw (v .yes, v .allowed, ne-eqb (length m) (memorySize (cartOf r .kind)) n) (λ i. (3, sym (v .back) i, m, place))
+    import-no f kept place =
+        rw (v .yes, v .allowed, ne-eqb (length m) (memorySize (cartOf r .kind)) n) (λ i. (3, sym (v .back) i, m, kept, place))
 
   -- and yes
   module _ (n : length m ≡ memorySize (cartOf r .kind)) where
-    pub load-yes : (f : List ℕ) → plain (left (accepted (loadSave f) [] (stateOf r m))) ≡ loads f r m
-    unfolding questions
-    load-yes f = ap plain (done (loadSave f) [] r m v (memory-yes r m v [] n))
+    pub load-yes : (f : List ℕ) (place : ℕ) → loaded f r m ≡ loads f r m place
+    unfolding questions accepted
+    load-yes f place = ap (changedAt place) (done (loadSave f) [] r m v (memory-yes r m v [] n))
 
     -- the file that is exported has k bytes
     module _ (d : List ℕ) (place k : ℕ) (e : k ≡ fileLength (cartOf r .kind) (cartOf r .chip .eeprom .large)) where
@@ -96,16 +100,19 @@ module _ (r m : List ℕ) (v : Valid r) where
           ∙ exported-at (fileOf (cartOf r .kind) s) d s place
           ∙ ap (exportAt place) (done saveData d r m v (rw (le-leb k (length d) l) at room))
 
-    pub no-fit : (f : List ℕ) (place : ℕ) → taken (saveFit (cartOf r .kind) (length f)) ≡ false → (14, r, m, place) ≡ imports f r m place
+    pub no-fit : (f : List ℕ) (kept place : ℕ) → taken (saveFit (cartOf r .kind) (length f)) ≡ false
+        → (14, r, m, kept, place) ≡ imports f r m kept place
     unfolding called importSave
-    no-fit f place t = rw (v .yes, v .allowed, eq-eqb (length m) (memorySize (cartOf r .kind)) n, t) (λ i. (14, sym (v .back) i, m, place))
+    no-fit f kept place t =
+        rw (v .yes, v .allowed, eq-eqb (length m) (memorySize (cartOf r .kind)) n, t) (λ i. (14, sym (v .back) i, m, kept, place))
 
     -- the part of the file that is kept is loaded
-    pub import-yes : (f part : List ℕ) (place : ℕ) {r' m' : List ℕ}
+    pub import-yes : (f part : List ℕ) (kept place : ℕ) {k : ℕ} {r' m' : List ℕ}
         → taken (saveFit (cartOf r .kind) (length f)) ≡ true
         → part ≡ keptPart (cartOf r .kind) f
-        → _≡_ {A = ℕ × List ℕ × List ℕ} (0, r', m') (plain (left (accepted (loadSave part) [] (stateOf r m))))
-        → (0, r', m', length part) ≡ imports f r m place
+        → _≡_ {A = ℕ × List ℕ × List ℕ × ℕ} (0, r', m', k) (loaded part r m)
+        → (0, r', m', length part, k) ≡ imports f r m kept place
     unfolding called importSave accepted
-    import-yes f part place t p e =
-        rw (v .yes, v .allowed, eq-eqb (length m) (memorySize (cartOf r .kind)) n, t, ← p) (λ i. (0, e i .1, e i .2, length part))
+    import-yes f part kept place t p e =
+        rw (v .yes, v .allowed, eq-eqb (length m) (memorySize (cartOf r .kind)) n, t, ← p)
+        (λ i. (0, e i .1, e i .2, length part, e i .3))

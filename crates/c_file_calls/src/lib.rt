@@ -7,27 +7,29 @@ ghost use mathlib.Core.Path.{_≡_};
 ghost use mathlib.Core.List.{[]};
 ghost use lib.ListN.{length};
 ghost use Rattle.kind.specs.Kind.{memorySize};
+ghost use Rattle.cart.specs.Record.{counted};
 ghost use Rattle.cart.specs.Calls.{loadSave, accepted};
 ghost use Rattle.c_record.specs.RecordBytes.{cartOf, Valid, stateOf};
-ghost use Rattle.c_record.specs.AtExit.{left, plain};
+ghost use Rattle.c_record.specs.AtExit.{left, changedAt};
 ghost use Rattle.c_record.specs.Calls.{loads, exports, imports};
 
 // An accepted load: of the record only `large` may change. The memory comes last, so that nothing stays live across it.
-fn load_valid(cart: &mut RecordBytes, memory: &mut [u8], file: &[u8])
+// Answers how many bytes of the memory changed.
+fn load_valid(cart: &mut RecordBytes, memory: &mut [u8], file: &[u8]) -> u32
     requires { ⌜ Valid (now cart) × (length (now memory) ≡ memorySize (cartOf (now cart) .kind)) ⌝ }
-    ensures { λ _. ⌜ (0, now (cart .exit), now (memory .exit))
-        ≡ plain (left (accepted (loadSave (now (file .entry))) []
-        (stateOf (now (cart .entry)) (now (memory .entry))))) ⌝ }
+    ensures { λ n. ⌜ (let s = stateOf (now (cart .entry)) (now (memory .entry)) in
+        (0, now (cart .exit), now (memory .exit), n)
+        ≡ changedAt 0 (left (counted s (accepted (loadSave (now (file .entry))) [] s)))) ⌝ }
 {
     let large = cart[layout::LARGE] == 1;
     let next = file_calls::large_after(c_record::kind_in(cart), large, file.len());
     c_record::put_bit(cart, layout::LARGE, large, next);
-    memory::apply(Store::File, file, memory);
+    memory::apply(Store::File, file, memory)
 }
 
-pub fn load_save(cart: &mut RecordBytes, memory: &mut [u8], file: &[u8]) -> u32
-    ensures { λ x. ⌜ (x, now (cart .exit), now (memory .exit))
-        ≡ loads (now (file .entry)) (now (cart .entry)) (now (memory .entry)) ⌝ }
+pub fn load_save(cart: &mut RecordBytes, memory: &mut [u8], file: &[u8], changed: &mut u32) -> u32
+    ensures { λ x. ⌜ (x, now (cart .exit), now (memory .exit), now (changed .exit))
+        ≡ loads (now (file .entry)) (now (cart .entry)) (now (memory .entry)) (now (changed .entry)) ⌝ }
 {
     if !quick_tests::is_record(cart) {
         return 2;
@@ -36,7 +38,7 @@ pub fn load_save(cart: &mut RecordBytes, memory: &mut [u8], file: &[u8]) -> u32
         return 3;
     }
     // a slice cut anew is passed in registers
-    load_valid(cart, memory, &file[..]);
+    *changed = load_valid(cart, memory, &file[..]);
     0
 }
 
@@ -61,9 +63,16 @@ pub fn save_data(cart: &RecordBytes, memory: &[u8], destination: &mut [u8], leng
 }
 
 // The part of the file that the kind keeps is loaded, and its length answered.
-pub fn import_save(cart: &mut RecordBytes, memory: &mut [u8], file: &[u8], kept: &mut u32) -> u32
-    ensures { λ x. ⌜ (x, now (cart .exit), now (memory .exit), now (kept .exit))
-        ≡ imports (now (file .entry)) (now (cart .entry)) (now (memory .entry)) (now (kept .entry)) ⌝ }
+pub fn import_save(
+    cart: &mut RecordBytes,
+    memory: &mut [u8],
+    file: &[u8],
+    kept: &mut u32,
+    changed: &mut u32,
+) -> u32
+    ensures { λ x. ⌜ (x, now (cart .exit), now (memory .exit), now (kept .exit), now (changed .exit))
+        ≡ imports (now (file .entry)) (now (cart .entry)) (now (memory .entry))
+        (now (kept .entry)) (now (changed .entry)) ⌝ }
 {
     if !c_record::is_record(cart) {
         return 2;
@@ -76,7 +85,7 @@ pub fn import_save(cart: &mut RecordBytes, memory: &mut [u8], file: &[u8], kept:
         return 14;
     }
     let part = file_sizes::kept_part(kind, file);
-    load_valid(cart, memory, part);
+    *changed = load_valid(cart, memory, part);
     *kept = part.len() as u32;
     0
 }

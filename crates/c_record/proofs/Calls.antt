@@ -8,7 +8,7 @@ use lib.ListN.{length}
 use borrow.Author.Tests.{eq-eqb, ne-eqb}
 use Rattle.lists.specs.Questions.{Question, asked}
 use Rattle.kind.specs.Kind.{memorySize}
-use Rattle.cart.specs.Record.{State, Outcome}
+use Rattle.cart.specs.Record.{State, Outcome, counted}
 use Rattle.cart.specs.Calls.{Call, question2, question3, questions, accepted, step}
 use Rattle.cart.proofs.Replies.{step-no, step-yes}
 use Rattle.c_record.specs.RecordBytes.{cartOf, isRecord, Valid, stateOf}
@@ -37,5 +37,5 @@ module _ (q : Call) (d r m : List ℕ) (v : Valid r) where
   refused n e h =
       (λ i. untouched n d (sym (v .back) i) m) ∙ ap left (sym (step-no q d (stateOf r m) n e h)) ∙ of-record (step q d) d r m v
 
-  pub done : 0 ≡ asked (questions q d (stateOf r m)) → left (accepted q d (stateOf r m)) ≡ called (step q d) d r m
+  pub done : 0 ≡ asked (questions q d (stateOf r m)) → left (counted (stateOf r m) (accepted q d (stateOf r m))) ≡ called (step q d) d r m
   done e = ap left (sym (step-yes q d (stateOf r m) 0 e refl)) ∙ of-record (step q d) d r m v

@@ -19,6 +19,7 @@ pub record AtExit : Type 0 where
   pub destination : List ℕ
   pub given : List ℕ
   pub flag : Bool
+  pub changed : ℕ
 
 -- the machine's own outcome, its record written back
 abbrev pub left : Outcome → AtExit
@@ -30,11 +31,12 @@ left o =
       destination = o .destination;
       given = o .given;
       flag = o .flag;
+      changed = o .changed;
     }
 
 abbrev pub untouched : ℕ → List ℕ → List ℕ → List ℕ → AtExit
 untouched number d r m =
-    record { answer = number; bytes = r; memory = m; destination = d; given = []; flag = false }
+    record { answer = number; bytes = r; memory = m; destination = d; given = []; flag = false; changed = 0 }
 
 -- the call on a record's bytes r and a memory m, with a destination d
 unfoldable pub called : (State → Outcome) → List ℕ → List ℕ → List ℕ → AtExit
@@ -47,6 +49,14 @@ plain x = (x .answer, x .bytes, x .memory)
 
 abbrev pub valueAt : ℕ → AtExit → ℕ × List ℕ × List ℕ × ℕ
 valueAt place x = (x .answer, x .bytes, x .memory, placed (x .answer) (first (x .given)) place)
+
+-- with a place for the number of places changed; at import with both
+abbrev pub changedAt : ℕ → AtExit → ℕ × List ℕ × List ℕ × ℕ
+changedAt place x = (x .answer, x .bytes, x .memory, placed (x .answer) (x .changed) place)
+
+abbrev pub importAt : ℕ → ℕ → AtExit → ℕ × List ℕ × List ℕ × ℕ × ℕ
+importAt kept changed x =
+    (x .answer, x .bytes, x .memory, placed (x .answer) (first (x .given)) kept, placed (x .answer) (x .changed) changed)
 
 abbrev pub flagAt : ℕ → AtExit → ℕ × List ℕ × List ℕ × ℕ
 flagAt place x = (x .answer, x .bytes, x .memory, placed (x .answer) (bit (x .flag)) place)

@@ -4,7 +4,7 @@ use Prim.Native.Nat.{ℕ}
 use Rattle.cart.specs.Record.{fromBytes}
 use Rattle.cart.specs.Calls.{saveRead, saveWrite, eepromBeginDma, eepromWrite, eepromRead, loadSave, saveData, chipState, takeSaveDirty}
 use Rattle.cart.specs.Calls.{step, restore, importSave, usesEepromOf, eepromWindowStart}
-use Rattle.c_record.specs.AtExit.{left, called, plain, valueAt, flagAt, stateAt, exportAt, askedAt}
+use Rattle.c_record.specs.AtExit.{left, called, plain, valueAt, changedAt, importAt, flagAt, stateAt, exportAt, askedAt}
 
 -- opening writes the record, whatever it was
 abbrev pub opens : List ℕ → ℕ → List ℕ → ℕ × List ℕ × List ℕ
@@ -13,26 +13,26 @@ opens image part m = plain (left (fromBytes image part m))
 abbrev pub reads : ℕ → List ℕ → List ℕ → ℕ → ℕ × List ℕ × List ℕ × ℕ
 reads address r m place = valueAt place (called (step (saveRead address) []) [] r m)
 
-abbrev pub writes : ℕ → ℕ → List ℕ → List ℕ → ℕ × List ℕ × List ℕ
-writes address value r m = plain (called (step (saveWrite address value) []) [] r m)
+abbrev pub writes : ℕ → ℕ → List ℕ → List ℕ → ℕ → ℕ × List ℕ × List ℕ × ℕ
+writes address value r m place = changedAt place (called (step (saveWrite address value) []) [] r m)
 
 abbrev pub announces : ℕ → List ℕ → List ℕ → ℕ × List ℕ × List ℕ
 announces words r m = plain (called (step (eepromBeginDma words) []) [] r m)
 
-abbrev pub takesBit : ℕ → List ℕ → List ℕ → ℕ × List ℕ × List ℕ
-takesBit value r m = plain (called (step (eepromWrite value) []) [] r m)
+abbrev pub takesBit : ℕ → List ℕ → List ℕ → ℕ → ℕ × List ℕ × List ℕ × ℕ
+takesBit value r m place = changedAt place (called (step (eepromWrite value) []) [] r m)
 
 abbrev pub givesBit : List ℕ → List ℕ → ℕ → ℕ × List ℕ × List ℕ × ℕ
 givesBit r m place = valueAt place (called (step eepromRead []) [] r m)
 
-abbrev pub loads : List ℕ → List ℕ → List ℕ → ℕ × List ℕ × List ℕ
-loads file r m = plain (called (step (loadSave file) []) [] r m)
+abbrev pub loads : List ℕ → List ℕ → List ℕ → ℕ → ℕ × List ℕ × List ℕ × ℕ
+loads file r m place = changedAt place (called (step (loadSave file) []) [] r m)
 
 abbrev pub exports : List ℕ → List ℕ → List ℕ → ℕ → ℕ × List ℕ × List ℕ × List ℕ × ℕ
 exports d r m place = exportAt place (called (step saveData d) d r m)
 
-abbrev pub imports : List ℕ → List ℕ → List ℕ → ℕ → ℕ × List ℕ × List ℕ × ℕ
-imports file r m place = valueAt place (called (importSave file) [] r m)
+abbrev pub imports : List ℕ → List ℕ → List ℕ → ℕ → ℕ → ℕ × List ℕ × List ℕ × ℕ × ℕ
+imports file r m kept changed = importAt kept changed (called (importSave file) [] r m)
 
 abbrev pub givesState : List ℕ → List ℕ → List ℕ → ℕ × List ℕ × List ℕ × List ℕ
 givesState r m place = stateAt place (called (step chipState []) [] r m)

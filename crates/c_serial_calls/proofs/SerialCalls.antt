@@ -8,7 +8,8 @@ use native.Mathlib.Omega.{arith}
 use lib.ListN.{length}
 use Rattle.lists.specs.Questions.{_else_, asked}
 use Rattle.lists.proofs.Bools.{either}
-use Rattle.memory.specs.Memory.{stored, stores}
+use Rattle.memory.specs.Memory.{stored, stores, withCount}
+use Rattle.memory.proofs.Counts.{differing-same}
 use Rattle.kind.specs.Kind.{memorySize, usesEeprom}
 use Rattle.eeprom.specs.declared.Eeprom.{Eeprom}
 use Rattle.eeprom.specs.declared.Shifted.{Shifted}
@@ -23,7 +24,7 @@ use Rattle.cart.specs.Calls.{eepromBeginDma, eepromWrite, eepromRead, questions
 use Rattle.c_record.specs.RecordBytes.{recordBytes, cartOf, Valid}
 use Rattle.cart.proofs.Fields.{allowed-bounds}
 use Rattle.c_record.specs.Fields.{withWidth, withShift, withPlace, withEnded, withSerial}
-use Rattle.c_record.specs.AtExit.{plain, valueAt}
+use Rattle.c_record.specs.AtExit.{plain, valueAt, changedAt}
 use Rattle.c_record.specs.Calls.{announces, takesBit, givesBit}
 use Rattle.c_record.proofs.FieldBytes.{serialed, put-width, put-place, put-ended, put-shift, put-serial}
 use Rattle.c_record.proofs.Calls.{memory-no, memory-yes, refused, done}
@@ -54,9 +55,9 @@ module _ (r m : List ℕ) (v : Valid r) where
 
   -- question 3 is answered no
   module _ (n : length m ≢ memorySize (cartOf r .kind)) where
-    pub write-3 : (x : ℕ) → (3, r, m) ≡ takesBit x r m
+    pub write-3 : (x place : ℕ) → (3, r, m, place) ≡ takesBit x r m place
     unfolding questions
-    write-3 x = ap plain (refused (eepromWrite x) [] r m v 3 (memory-no r m v (usesEeprom (cartOf r .kind) else 4 ∷ []) n) (λ z. omega (arith, z)))
+    write-3 x place = ap (changedAt place) (refused (eepromWrite x) [] r m v 3 (memory-no r m v (usesEeprom (cartOf r .kind) else 4 ∷ []) n) (λ z. omega (arith, z)))
 
     pub read-3 : (place : ℕ) → (3, r, m, place) ≡ givesBit r m place
     unfolding questions
@@ -64,25 +65,25 @@ module _ (r m : List ℕ) (v : Valid r) where
 
   -- and yes
   module _ (n : length m ≡ memorySize (cartOf r .kind)) where
-    pub write-4 : (x : ℕ) → usesEeprom (cartOf r .kind) ≡ false → (4, r, m) ≡ takesBit x r m
+    pub write-4 : (x place : ℕ) → usesEeprom (cartOf r .kind) ≡ false → (4, r, m, place) ≡ takesBit x r m place
     unfolding questions
-    write-4 x k =
+    write-4 x place k =
         let q : 4 ≡ asked (usesEeprom (cartOf r .kind) else 4 ∷ []) = rw k in
-        ap plain (refused (eepromWrite x) [] r m v 4 (q ∙ memory-yes r m v (usesEeprom (cartOf r .kind) else 4 ∷ []) n) (λ z. omega (arith, z)))
+        ap (changedAt place) (refused (eepromWrite x) [] r m v 4 (q ∙ memory-yes r m v (usesEeprom (cartOf r .kind) else 4 ∷ []) n) (λ z. omega (arith, z)))
 
     -- what the step t leaves
-    written : (x : ℕ) (t : EepromStep) {r' m' : List ℕ} → usesEeprom (cartOf r .kind) ≡ true → t ≡ writeBit e (x % 2)
+    written : (x place : ℕ) (t : EepromStep) {n : ℕ} {r' m' : List ℕ} → usesEeprom (cartOf r .kind) ≡ true → t ≡ writeBit e (x % 2)
         → r' ≡ recordBytes (serialed (cartOf r) (stores (t .store) || cartOf r .dirty) (t .eeprom))
-        → m' ≡ stored (t .store) [] m
-        → (0, r', m') ≡ takesBit x r m
+        → (n, m') ≡ withCount m (stored (t .store) [] m)
+        → (0, r', m', n) ≡ takesBit x r m place
     unfolding questions accepted bitIn
-    written x t {r'} {m'} k w p q =
+    written x place t k w p q =
         let y : 0 ≡ asked (usesEeprom (cartOf r .kind) else 4 ∷ []) = rw k in
-        (λ i. (0, p i, q i))
-        ∙ rw w (ap plain (done (eepromWrite x) [] r m v (y ∙ memory-yes r m v (usesEeprom (cartOf r .kind) else 4 ∷ []) n)))
+        (λ i. (0, p i, q i .1, q i .0))
+        ∙ rw w (ap (changedAt place) (done (eepromWrite x) [] r m v (y ∙ memory-yes r m v (usesEeprom (cartOf r .kind) else 4 ∷ []) n)))
 
     -- a bit that more follow, and one that ends a phase; `chip` is the EEPROM as it was read, w its address bits
-    module _ (x : ℕ) (chip : Eeprom) (w : ℕ) (s : Shifted) (k : usesEeprom (cartOf r .kind) ≡ true) (c : chip ≡ e) (h : w ≡ wOf chip)
+    module _ (x place : ℕ) (chip : Eeprom) (w : ℕ) (s : Shifted) (k : usesEeprom (cartOf r .kind) ≡ true) (c : chip ≡ e) (h : w ≡ wOf chip)
         (f : s ≡ shiftIn (chip .acc) (chip .count) (countLimit (chip .phase) w) (x % 2)) where
       step : (y : Shifted) → s ≡ y → shifted e (λ acc. turned e acc (x % 2)) y ≡ writeBit e (x % 2)
       step y g =
@@ -91,22 +92,22 @@ module _ (r m : List ℕ) (v : Valid r) where
           ∙ ap (λ (z : Eeprom). shiftIn (z .acc) (z .count) (countLimit (z .phase) (wOf z)) (x % 2)) c)
           ∙ by-turn e (x % 2) (allowed-bounds (cartOf r) (v .allowed) .limitOk)
 
-      pub write-more : (acc count : ℕ) {r' : List ℕ} → s ≡ More acc count → r' ≡ withShift r count acc → (0, r', m) ≡ takesBit x r m
+      pub write-more : (acc count : ℕ) {r' : List ℕ} → s ≡ More acc count → r' ≡ withShift r count acc → (0, r', m, 0) ≡ takesBit x r m place
       unfolding stored
       write-more acc count g p =
-          written x (kept (serial e (e .phase) count (e .block) (e .place) acc)) k (step (More acc count) g)
-          (p ∙ ap (λ (l : List ℕ). withShift l count acc) (sym (v .back)) ∙ put-shift (cartOf r) count acc) refl
+          written x place (kept (serial e (e .phase) count (e .block) (e .place) acc)) k (step (More acc count) g)
+          (p ∙ ap (λ (l : List ℕ). withShift l count acc) (sym (v .back)) ∙ put-shift (cartOf r) count acc) (ap (λ (n : ℕ). (n, m)) (sym (differing-same m)))
 
-      pub write-turn : (acc : ℕ) {r' m' : List ℕ} → s ≡ Full acc
+      pub write-turn : (acc : ℕ) {n : ℕ} {r' m' : List ℕ} → s ≡ Full acc
           → r' ≡ withSerial r (stores (turned chip acc (x % 2) .store)) (turned chip acc (x % 2) .eeprom)
-          → m' ≡ stored (turned chip acc (x % 2) .store) [] m
-          → (0, r', m') ≡ takesBit x r m
+          → (n, m') ≡ withCount m (stored (turned chip acc (x % 2) .store) [] m)
+          → (0, r', m', n) ≡ takesBit x r m place
       write-turn acc g p q =
           let t = turned e acc (x % 2) in
-          written x t k (step (Full acc) g)
+          written x place t k (step (Full acc) g)
           (p ∙ ap (λ (z : Eeprom). withSerial r (stores (turned z acc (x % 2) .store)) (turned z acc (x % 2) .eeprom)) c
           ∙ ap (λ (l : List ℕ). withSerial l (stores (t .store)) (t .eeprom)) (sym (v .back)) ∙ put-serial (cartOf r) (stores (t .store)) (t .eeprom))
-          (q ∙ ap (λ (z : Eeprom). stored (turned z acc (x % 2) .store) [] m) c)
+          (q ∙ ap (λ (z : Eeprom). withCount m (stored (turned z acc (x % 2) .store) [] m)) c)
 
     -- a bit out, and what it changes
     module _ (place bit : ℕ) (chip : Eeprom) (d : Drawn) (c : chip ≡ e) (b : bit ≡ readBit (usesEeprom (cartOf r .kind)) e m)

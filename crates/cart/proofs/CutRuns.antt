@@ -11,7 +11,7 @@ use Rattle.kind.specs.declared.SaveType.the-variants.{None, Sram, Flash64, Flas
 use Rattle.kind.specs.Kind.{usesEeprom, detectSaveType}
 use Rattle.eeprom.specs.Eeprom.{bitIn}
 use Rattle.cart.specs.ChipState.{chipBytes}
-use Rattle.cart.specs.Record.{State, Outcome, outcome, recordAllowed, fromBytes}
+use Rattle.cart.specs.Record.{State, Outcome, outcome, outcomeOf, counted, recordAllowed, fromBytes}
 use Rattle.cart.specs.Calls.{Call, saveWrite, loadSave, saveData, chipState, saveRead, eepromBeginDma, eepromWrite, eepromRead, takeSaveDirty, readSave, writeSave, load, fileOf, exported, questions, accepted, step}
 use Rattle.cart.specs.Resume.{withFlag}
 use Rattle.cart.specs.Cut.{fileLeft, bytesLeft, cut, cuts, Turn, before, run, uncut, CutRuns}
@@ -21,7 +21,7 @@ use Rattle.cart.proofs.Resume.{file-left, bytes-left, quiet, cut-quiet}
 
 -- what of an outcome does not show the flag
 abbrev pub unflagged : Outcome → Outcome
-unflagged o = record { refusal = o .refusal; given = o .given; flag = false; next = quiet (o .next); destination = o .destination }
+unflagged o = outcomeOf (o .refusal) (o .given) false (o .changed) (quiet (o .next)) (o .destination)
 
 -- no call looks at the flag
 file-quiet : (kind : SaveType) (s : State) → fileOf kind (quiet s) ≡ fileOf kind s
@@ -78,7 +78,7 @@ step-quiet : (c : Call) (d : List ℕ) (s : State) → unflagged (step c d (quie
 unfolding step
 step-quiet c d s =
     rw (questions-quiet c d s)
-    (either-quiet (eqb (asked (questions c d s)) 0) (accepted c d (quiet s)) _ (accepted c d s) _ (accepted-quiet c d s) refl)
+    (either-quiet (eqb (asked (questions c d s)) 0) (counted (quiet s) (accepted c d (quiet s))) _ (counted s (accepted c d s)) _ (ap (counted s) (accepted-quiet c d s)) refl)
 
 pub step-same : (c : Call) (d : List ℕ) (s t : State) → quiet s ≡ quiet t → unflagged (step c d s) ≡ unflagged (step c d t)
 step-same c d s t e = sym (step-quiet c d s) ∙ ap (λ (z : State). unflagged (step c d z)) e ∙ step-quiet c d t

@@ -18,7 +18,7 @@ use Rattle.flash.specs.Flash.{stateAllowed}
 use Rattle.eeprom.specs.Eeprom.{widthAllowed, w, readBit, afterRead}
 use Rattle.byte_step.specs.ByteStep.{readByte, writeStep}
 use Rattle.cart.specs.ChipState.{phaseOf, chipBytes, chipOf, fieldQuestions}
-use Rattle.cart.specs.Record.{State, recordAllowed, freshCart, fresh, fromBytes}
+use Rattle.cart.specs.Record.{State, refused, recordAllowed, freshCart, fresh, fromBytes}
 use Rattle.cart.specs.Calls.{saveRead, saveWrite, eepromWrite, eepromRead, saveData, chipState, takeSaveDirty, stateWith, readSave, writeSave, load, fileOf, questions, accepted, step, restore, importSave, usesEepromOf, eepromWindowStart}
 use Rattle.cart.specs.Cases.{plain, eeprom, chip, restored}
 
@@ -40,7 +40,7 @@ record Refusals : Type 0 where
   length2 : step chipState [] (record { cart = freshCart 191 None Usual; memory = [] }) .refusal ≡ 2
   memory3 : (step (saveRead 0) [] (longer plain) .refusal ≡ 3) × (step eepromRead [] (longer plain) .refusal ≡ 3) × (step saveData [] (longer plain) .refusal ≡ 3)
   first : step (saveWrite 0 0) [] (longer (spoiled plain)) .refusal ≡ 2
-  open3 : fromBytes sram 0 [] ≡ record { refusal = 3; given = []; flag = false; next = record { cart = freshCart 0 None Usual; memory = [] }; destination = [] }
+  open3 : fromBytes sram 0 [] ≡ refused 3 (record { cart = freshCart 0 None Usual; memory = [] }) []
   kind4 : step (eepromWrite 0) [] plain .refusal ≡ 4
   state : (restored [] ≡ 6) × (restored (replicate 19 0) ≡ 6) × (restored (chip 9 0 0 0 0) ≡ 8) × (restored (chip 0 2 0 0 0) ≡ 9)
   width10 : restored (replicate 3 0 ++ (7 ∷ replicate 14 0)) ≡ 10

@@ -13,7 +13,7 @@ use Rattle.memory.specs.Memory.{stores}
 use Rattle.kind.specs.declared.SaveType.{SaveType}
 use Rattle.byte_step.specs.ByteStep.{writeStep}
 use Rattle.eeprom.specs.Eeprom.{writeBit, bitIn}
-use Rattle.cart.specs.Record.{State, Outcome, guarded}
+use Rattle.cart.specs.Record.{State, Outcome, guarded, counted}
 use Rattle.cart.specs.Calls.{Call, saveRead, saveWrite, eepromBeginDma, eepromWrite, eepromRead, loadSave, saveData, chipState, takeSaveDirty}
 use Rattle.cart.specs.Calls.{writeSave, load, fileOf, exported, questions, accepted, step, restoreQuestions, restore, importQuestions, importSave}
 use Rattle.cart.specs.Claims.{FlagKept}
@@ -56,7 +56,7 @@ unfolding step accepted load restore importSave
 flag-kept =
     record {
       stays = stays;
-      load = λ f d s. leaves (questions (loadSave f) d s) d s (accepted (loadSave f) d s) refl;
+      load = λ f d s. leaves (questions (loadSave f) d s) d s (counted s (accepted (loadSave f) d s)) refl;
       restored = λ b s. leaves (restoreQuestions b s) [] s _ refl;
       imported = λ f s. leaves (importQuestions f s) [] s _ refl;
     }

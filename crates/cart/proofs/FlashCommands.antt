@@ -17,7 +17,7 @@ use Rattle.flash.specs.Flash.{place, idByte, shownByte, writeByte}
 use Rattle.flash.specs.Gbatek.{Write, At, gbatek, bus, written, program, halfErase, placeOf, base, ChipBytes, bytes64K, bytes128K, Idle, idleChip}
 use Rattle.flash.proofs.Commands.{flash-chip}
 use Rattle.byte_step.specs.ByteStep.{readByte, writeStep}
-use Rattle.cart.specs.Record.{State, outcome}
+use Rattle.cart.specs.Record.{State, outcome, counted}
 use Rattle.cart.specs.Calls.{saveRead, saveWrite, flashOf, withFlash, readSave, writeSave, questions, accepted, step}
 use Rattle.cart.specs.Gbatek.{Ran, ran, calls, Usable, FlashPart, sst64K, macronix64K, panasonic64K, usual64K, sanyo128K, macronix128K, usual128K, writes, FlashClaim}
 use Rattle.cart.proofs.Fields.{allowed-bounds}
@@ -75,14 +75,14 @@ reads : (s : State) (a v : ℕ) → readSave (s .cart .kind) s a ≡ v → Usabl
 unfolding questions accepted
 reads s a v e u =
     then (saveRead a) [] s
-    (step-accepted (saveRead a) [] s (u .valid, (memory-yes s u, tt)) ∙ ap (λ (x : ℕ). outcome (x ∷ []) s []) e)
+    (step-accepted (saveRead a) [] s (u .valid, (memory-yes s u, tt)) ∙ ap (λ (x : ℕ). counted s (outcome (x ∷ []) s [])) e)
     (nothing s)
 
 module _ {maker device : ℕ} where
-  write-step : (s : State) (a v : ℕ) → FlashPart (s .cart .kind) (s .cart .part) maker device → Usable s → step (saveWrite a v) [] s ≡ outcome [] (withFlash s (writeByte (flashOf s) a v)) []
+  write-step : (s : State) (a v : ℕ) → FlashPart (s .cart .kind) (s .cart .part) maker device → Usable s → step (saveWrite a v) [] s ≡ counted s (outcome [] (withFlash s (writeByte (flashOf s) a v)) [])
   unfolding questions accepted
   write-step s a v f u =
-      step-accepted (saveWrite a v) [] s (u .valid, (memory-yes s u, tt)) ∙ ap (λ (t : State). outcome [] t []) (write-part f s a v)
+      step-accepted (saveWrite a v) [] s (u .valid, (memory-yes s u, tt)) ∙ ap (λ (t : State). counted s (outcome [] t [])) (write-part f s a v)
 
   run-writes : (ws : List Write) (s : State) → FlashPart (s .cart .kind) (s .cart .part) maker device → Usable s → calls (writes ws) s ≡ ran [] (withFlash s (written ws (flashOf s)))
   unfolding written

@@ -4,6 +4,7 @@ pub mod Replies
 pub mod Sound
 pub mod Usable
 pub mod Recoverable
+pub mod Counts
 pub mod Resume
 pub mod CutRuns
 pub mod Restore

@@ -15,7 +15,7 @@ use Rattle.part.specs.Part.{partOf, partFits}
 use Rattle.flash.specs.declared.Flash.{Flash}
 use Rattle.byte_step.specs.ByteStep.{readByte}
 use Rattle.eeprom.specs.Eeprom.{bitIn}
-use Rattle.cart.specs.Record.{State, Outcome, guarded, outcome, recordAllowed, freshCart, fresh}
+use Rattle.cart.specs.Record.{State, Outcome, guarded, outcome, counted, recordAllowed, freshCart, fresh}
 use Rattle.cart.specs.Calls.{Call, saveRead, saveWrite, eepromBeginDma, eepromWrite, eepromRead, loadSave, saveData, chipState, takeSaveDirty}
 use Rattle.cart.specs.Calls.{readSave, writeSave, load, fileOf, exported, questions, accepted, step, restoreQuestions, restore, importQuestions, importSave}
 use Rattle.cart.specs.Gbatek.{Usable, sst64K, macronix64K, panasonic64K, usual64K, sanyo128K, macronix128K, usual128K, Listed}
@@ -145,14 +145,14 @@ module _ (p : Part) (s : State) where
       → ((a : ℕ) → c ≡ saveRead a → s .cart .chip .flash .id ≡ false) → step c d (withPart p s) ≡ outcomeWith p (step c d s)
   unfolding step
   unseen c d e n =
-      rw (questions-same c d (allowed-same e), accepted-same c d n) (either-same (eqb (asked (questions c d s)) 0) (accepted c d s) _)
+      rw (questions-same c d (allowed-same e), accepted-same c d n) (either-same (eqb (asked (questions c d s)) 0) (counted s (accepted c d s)) _)
 
 pub part-kept : PartKept
 unfolding step restore importSave load
 part-kept =
     record {
       opened = λ image part memory h. ap (λ (o : Outcome). o .next .cart .part) (opened image part memory h) ∙ fresh-part image (partOf part);
-      stays = λ c d s. leaves (questions c d s) d s (accepted c d s) (accepted-part c d s);
+      stays = λ c d s. leaves (questions c d s) d s (counted s (accepted c d s)) (accepted-part c d s);
       restored = λ b s. leaves (restoreQuestions b s) [] s _ refl;
       imported = λ f s. leaves (importQuestions f s) [] s _ refl;
       unseen = λ p c d s. unseen p s c d;

@@ -1,21 +1,24 @@
 -- A call's outcome, its questions answered. Assumes nothing.
 use mathlib.Core.Path.{_≡_, refl, sym, _∙_}
 use mathlib.Core.Logic.{_≢_}
-use mathlib.Core.Bool.{true, false}
+use mathlib.Core.Bool.{true}
 use mathlib.Core.List.{List, [], _∷_, _++_}
 use Prim.Native.Nat.{ℕ}
 use lib.Dec.{eqb}
 use borrow.Author.Tests.{ne-eqb, eqb-true}
 use Rattle.lists.specs.Questions.{Question, _else_, asked}
 use Rattle.lists.proofs.Questions.{AllYes, yes-all, asked-no, asked-yes}
+use Rattle.memory.specs.declared.Store.the-variants.{Nothing}
 use Rattle.kind.specs.Kind.{memorySize}
 use Rattle.cart.specs.declared.Cartridge.{Cartridge}
 use Rattle.cart.specs.Calls.{Call, questions, accepted, step}
-use Rattle.cart.specs.Record.{State, Outcome, guarded, recordAllowed, recordQuestion, doorNumber}
+use Rattle.cart.specs.Record.{State, Outcome, guarded, refused, counted, recordAllowed, recordQuestion, doorNumber}
+use Rattle.cart.specs.Counts.{storeOf}
+use Rattle.cart.proofs.Counts.{accepted-kept}
 
 module _ (qs : List Question) (d : List ℕ) (s : State) (o : Outcome) where
   -- the number is n
-  pub guarded-no : (n : ℕ) → n ≡ asked qs → n ≢ 0 → guarded qs d s o ≡ record { refusal = n; given = []; flag = false; next = s; destination = d }
+  pub guarded-no : (n : ℕ) → n ≡ asked qs → n ≢ 0 → guarded qs d s o ≡ refused n s d
   guarded-no n e h = rw (← e, ne-eqb n 0 h)
 
   -- or there is none
@@ -24,13 +27,17 @@ module _ (qs : List Question) (d : List ℕ) (s : State) (o : Outcome) where
 
 -- of one of the nine calls
 module _ (q : Call) (d : List ℕ) (s : State) (n : ℕ) (e : n ≡ asked (questions q d s)) where
-  pub step-no : n ≢ 0 → step q d s ≡ record { refusal = n; given = []; flag = false; next = s; destination = d }
+  pub step-no : n ≢ 0 → step q d s ≡ refused n s d
   unfolding step
-  step-no h = guarded-no (questions q d s) d s (accepted q d s) n e h
+  step-no h = guarded-no (questions q d s) d s (counted s (accepted q d s)) n e h
 
-  pub step-yes : n ≡ 0 → step q d s ≡ accepted q d s
+  pub step-yes : n ≡ 0 → step q d s ≡ counted s (accepted q d s)
   unfolding step
-  step-yes h = guarded-yes (questions q d s) d s (accepted q d s) n e h
+  step-yes h = guarded-yes (questions q d s) d s (counted s (accepted q d s)) n e h
+
+  -- a call that is no store has changed no place
+  pub step-kept : storeOf q s ≡ Nothing → n ≡ 0 → step q d s ≡ accepted q d s
+  step-kept k h = step-yes h ∙ accepted-kept q d s k
 
 -- questions 2 and 3, with more behind them: answered no with the number k, or yes
 module _ (c : Cartridge) (n : ℕ) where

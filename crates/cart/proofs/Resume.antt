@@ -30,6 +30,7 @@ use Rattle.cart.specs.declared.ChipRecord.{ChipRecord}
 use Rattle.cart.specs.ChipState.{chipBytes, stateQuestions}
 use Rattle.cart.specs.Record.{State, Outcome, outcome, chipAllowed, recordAllowed, fresh, freshCart, fromBytes}
 use Rattle.cart.specs.Calls.{Call, saveWrite, loadSave, saveData, chipState, stateWith, load, eepromFile, fileOf, exported, holds, questions, accepted, step, restore}
+use Rattle.cart.specs.Counts.{storeOf}
 use Rattle.cart.specs.Cut.{fileIn, fileLeft, bytesLeft, reloaded, resumed, cut}
 use Rattle.cart.specs.Gbatek.{calls}
 use Rattle.cart.specs.Resume.{Open, withFlag, Resumes}
@@ -38,6 +39,7 @@ use Rattle.cart.proofs.Fields.{chip-fields}
 use Rattle.cart.proofs.Sound.{Sound, record-allowed, memory-fits, step-accepted, sound-fresh, opened, eeprom-size}
 use Rattle.cart.proofs.Restore.{restoring, restore-accepted}
 use Rattle.cart.proofs.Recoverable.{Recoverable, recoverable-step, recoverable-fresh}
+use Rattle.cart.proofs.Counts.{accepted-kept}
 
 -- what a cut leaves: the file and the 18 bytes
 eeprom-file-le : (s : State) → length (eepromFile s) ≤ length (s .memory)
@@ -59,12 +61,12 @@ file-in (some f) d s = ap some (front-of f d)
 -- an export into a destination as long as the memory at least, of a state that questions 2 and 3 let by
 pub export-accepted : (d : List ℕ) (s : State) → recordAllowed (s .cart) ≡ true → eqb (length (s .memory)) (memorySize (s .cart .kind)) ≡ true → length (s .memory) ≤ length d
     → step saveData d s ≡ exported (fileOf (s .cart .kind) s) d s
-unfolding questions accepted
-export-accepted d s a b e = step-accepted saveData d s (a, (b, (file-fits (s .cart .kind) s d e, tt)))
+unfolding questions accepted storeOf
+export-accepted d s a b e = step-accepted saveData d s (a, (b, (file-fits (s .cart .kind) s d e, tt))) ∙ accepted-kept saveData d s refl
 
 pub state-accepted : (s : State) → recordAllowed (s .cart) ≡ true → step chipState [] s ≡ outcome (chipBytes (s .cart .chip)) s []
-unfolding questions accepted
-state-accepted s a = step-accepted chipState [] s (a, tt)
+unfolding questions accepted storeOf
+state-accepted s a = step-accepted chipState [] s (a, tt) ∙ accepted-kept chipState [] s refl
 
 pub file-left : (s : State) → recordAllowed (s .cart) ≡ true → eqb (length (s .memory)) (memorySize (s .cart .kind)) ≡ true → fileLeft s ≡ fileOf (s .cart .kind) s
 unfolding fileLeft

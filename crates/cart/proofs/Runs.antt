@@ -4,7 +4,7 @@ use mathlib.Core.List.{List, [], _∷_, _++_, append-assoc}
 use mathlib.Core.Bool.{Bool, true, false, cond}
 use Prim.Native.Nat.{ℕ}
 use lib.Dec.{eqb}
-use Rattle.cart.specs.Record.{State, outcome}
+use Rattle.cart.specs.Record.{State, outcome, counted}
 use Rattle.cart.specs.Calls.{Call, step}
 use Rattle.cart.specs.Gbatek.{Ran, andThen, ran, calls, Usable}
 use Rattle.cart.proofs.Usable.{usable-step}
@@ -14,7 +14,7 @@ unfolding calls
 nothing s = refl
 
 -- an accepted call, then others
-pub then : (c : Call) (cs : List Call) (s : State) {g l : List ℕ} {t u : State} → step c [] s ≡ outcome g t [] → calls cs t ≡ ran l u → calls (c ∷ cs) s ≡ ran (g ++ l) u
+pub then : (c : Call) (cs : List Call) (s : State) {g l : List ℕ} {t u : State} → step c [] s ≡ counted s (outcome g t []) → calls cs t ≡ ran l u → calls (c ∷ cs) s ≡ ran (g ++ l) u
 unfolding calls
 then c cs s p q = rw (p, q)
 

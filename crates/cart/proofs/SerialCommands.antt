@@ -21,7 +21,7 @@ use Rattle.eeprom.specs.Gbatek as eeprom
 use Rattle.eeprom.specs.Gbatek.{Width, Writing, Addressing, bits, bitsOfBytes, readOut, fed, drawn, drained, held, blockOf}
 use Rattle.eeprom.proofs.Bits.{bits-word}
 use Rattle.eeprom.proofs.Commands.{serial-chip}
-use Rattle.cart.specs.Record.{State, outcome}
+use Rattle.cart.specs.Record.{State, outcome, counted}
 use Rattle.cart.specs.Calls.{eepromBeginDma, eepromWrite, eepromRead, eepromOf, withEeprom, withChip, questions, accepted, step}
 use Rattle.cart.specs.Gbatek.{Ran, ran, calls, Usable, SerialBitsClaim, write, read, behind, SerialClaim}
 use Rattle.cart.proofs.Sound.{step-accepted, eeprom-size}
@@ -29,7 +29,7 @@ use Rattle.cart.proofs.Usable.{memory-yes, usable-step}
 use Rattle.cart.proofs.Runs.{then, nothing, calls-then, usable-on}
 
 -- bits in and bits out are accepted one after the other
-bit-step : (s : State) (v : ℕ) → usesEeprom (s .cart .kind) ≡ true → Usable s → step (eepromWrite v) [] s ≡ outcome [] (withEeprom s (bitIn (eepromOf s) v)) []
+bit-step : (s : State) (v : ℕ) → usesEeprom (s .cart .kind) ≡ true → Usable s → step (eepromWrite v) [] s ≡ counted s (outcome [] (withEeprom s (bitIn (eepromOf s) v)) [])
 unfolding questions accepted
 bit-step s v u k = step-accepted (eepromWrite v) [] s (k .valid, (memory-yes s k, (u, tt)))
 
@@ -42,7 +42,7 @@ run-bits (v ∷ vs) s u k =
     then (eepromWrite v) (map eepromWrite vs) s b (run-bits vs t u (rw b at (usable-step (eepromWrite v) [] s k)))
 
 out-step : (s : State) → usesEeprom (s .cart .kind) ≡ true → Usable s
-    → step eepromRead [] s ≡ outcome (readBit true (s .cart .chip .eeprom) (s .memory) ∷ []) (withChip s (afterRead (s .cart .chip .eeprom))) []
+    → step eepromRead [] s ≡ counted s (outcome (readBit true (s .cart .chip .eeprom) (s .memory) ∷ []) (withChip s (afterRead (s .cart .chip .eeprom))) [])
 unfolding questions accepted
 out-step s u k = step-accepted eepromRead [] s (k .valid, (memory-yes s k, tt)) ∙ rw u
 
@@ -104,7 +104,7 @@ module _ (s : State) (i : Waits s) where
   room : (k : ℕ) → 8 * (k % 1024) + 8 ≤ length m
   room k = omega (arith, i .usable .memoryOk, eeprom-size (s .cart .kind) (i .kind))
 
-  tell : (n : ℕ) → step (eepromBeginDma n) [] s ≡ outcome [] (withChip s (beginDma n e)) []
+  tell : (n : ℕ) → step (eepromBeginDma n) [] s ≡ counted s (outcome [] (withChip s (beginDma n e)) [])
   unfolding questions accepted dmaQuestion
   tell n =
       let q : dmaQuestion n e .yes ≡ true = rw (i .idle .phase0) (free (tells6 n) (ltb (e .count) 6)) in
@@ -161,7 +161,7 @@ after w x s i block y other vs us c h =
 idle-ready : (s : State) → Waits s → calls (eepromRead ∷ []) s ≡ ran (1 ∷ []) s
 unfolding readBit afterRead
 idle-ready s i =
-    let o : step eepromRead [] s ≡ outcome (1 ∷ []) s [] = out-step s (i .kind) (i .usable) ∙ rw (i .idle .phase0) in
+    let o : step eepromRead [] s ≡ counted s (outcome (1 ∷ []) s []) = out-step s (i .kind) (i .usable) ∙ rw (i .idle .phase0) in
     then eepromRead [] s o (nothing s)
 
 pub serial-commands : SerialClaim

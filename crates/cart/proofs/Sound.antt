@@ -3,7 +3,7 @@ use mathlib.Core.Path.{_≡_, refl, ap, _∙_}
 use mathlib.Core.Bool.{Bool, true, _||_}
 use mathlib.Core.List.{List, []}
 use mathlib.Core.Option.{Option, none, some}
-use Prim.Native.Nat.{ℕ, _*_, _%_, _<_}
+use Prim.Native.Nat.{ℕ, _*_, _%_, _≤_, _<_}
 use native.Mathlib.Nat.{mod-lt}
 use native.Mathlib.Omega.{arith}
 use lib.Dec.{leb, eqb}
@@ -12,10 +12,9 @@ use borrow.Author.Tests.{eqb-true, eq-eqb}
 use Rattle.lists.specs.Questions.{asked}
 use Rattle.lists.proofs.Bools.{split, and-right}
 use Rattle.lists.proofs.Questions.{AllYes, numbered, all-yes, yes-all}
-use Rattle.memory.specs.declared.Store.{Store}
-use Rattle.memory.specs.declared.Store.the-variants.{Nothing, Byte, Block, Sector, Chip, File}
-use Rattle.memory.specs.Memory.{stored, erased, Fits}
-use Rattle.memory.proofs.Memory.{length-erased, length-block, length-sector, length-filled}
+use Rattle.memory.specs.Memory.{stored, erased}
+use Rattle.memory.proofs.Memory.{length-erased, length-filled}
+use Rattle.memory.proofs.Counts.{length-stored}
 use Rattle.image.specs.Image.{imageLength}
 use Rattle.kind.specs.declared.SaveType.{SaveType}
 use Rattle.kind.specs.declared.SaveType.the-variants.{None, Sram, Flash64, Flash128, Eeprom512, Eeprom8k}
@@ -30,7 +29,7 @@ use Rattle.eeprom.specs.declared.Eeprom.{Eeprom}
 use Rattle.eeprom.specs.Eeprom.{told, beginDma, dmaQuestion, writeBit, bitIn, afterRead}
 use Rattle.eeprom.proofs.Sound as eeprom
 use Rattle.eeprom.proofs.Fits.{write-fits}
-use Rattle.cart.specs.Record.{State, Outcome, outcome, recordAllowed, freshCart, fresh, openQuestions, fromBytes}
+use Rattle.cart.specs.Record.{State, Outcome, outcome, counted, recordAllowed, freshCart, fresh, openQuestions, fromBytes}
 use Rattle.cart.specs.Calls.{Call, saveRead, saveWrite, eepromBeginDma, eepromWrite, eepromRead, loadSave, saveData, chipState, takeSaveDirty}
 use Rattle.cart.specs.Calls.{stateWith, flashOf, withFlash, eepromOf, withEeprom, withChip, writeSave, load, fileOf, exported, questions, accepted, step}
 use Rattle.cart.proofs.ChipState.{chip-allowed}
@@ -71,31 +70,21 @@ eeprom-size Flash128 e = cc
 eeprom-size Eeprom512 e = refl
 eeprom-size Eeprom8k e = refl
 
--- what lies within the memory keeps its length
-length-stored : (t : Store) (f m : List ℕ) → Fits t (length m) → length (stored t f m) ≡ length m
-unfolding stored
-length-stored Nothing f m h = refl
-length-stored (Byte a v) f m h = length-set m a v
-length-stored (Block k d) f m h = length-block m k d h
-length-stored (Sector a) f m h = length-sector m a h
-length-stored Chip f m h = length-erased (length m)
-length-stored File f m h = length-filled (length m) f
-
 pub place-lt : (f : Flash) (n a : ℕ) → 0 < n → place f n a < n
 unfolding place
 place-lt f n a h = mod-lt _ h
 
 module _ {E : Eeprom → Type 0} where
-  flash-by : (s : State) (a v n : ℕ) → memorySize (s .cart .kind) ≡ n * 4096 → 0 < n → SoundBy E s → SoundBy E (withFlash s (writeByte (flashOf s) a v))
+  flash-by : (s : State) (a v n : ℕ) → memorySize (s .cart .kind) ≡ n * 4096 → 0 < n → n ≤ 32 → SoundBy E s → SoundBy E (withFlash s (writeByte (flashOf s) a v))
   unfolding writeByte
-  flash-by s a v n e h k =
+  flash-by s a v n e h g k =
       let f = s .cart .chip .flash in
       let l : length (s .memory) ≡ n * 4096 = k .memoryOk ∙ e in
       let w = flash.way f (length (s .memory)) a v in
       record {
         lenOk = k .lenOk;
         partOk = k .partOk;
-        memoryOk = length-stored _ [] (s .memory) (flash.fits-way (length (s .memory)) n l (place-lt f (length (s .memory)) a (omega arith)) w) ∙ k .memoryOk;
+        memoryOk = length-stored _ [] (s .memory) (flash.fits-way (length (s .memory)) n l g (place-lt f (length (s .memory)) a (omega arith)) w) ∙ k .memoryOk;
         flashOk = flash.sound-way (k .flashOk) w;
         eepromOk = k .eepromOk;
       }
@@ -108,8 +97,8 @@ module _ {E : Eeprom → Type 0} where
   unfolding writeSave writeStep writeByte stored
   write-by None s a v e k = k
   write-by Sram s a v e k = byte-by s true (a % 32768) v k
-  write-by Flash64 s a v e k = flash-by s a v 16 (ap memorySize e) (omega arith) k
-  write-by Flash128 s a v e k = flash-by s a v 32 (ap memorySize e) (omega arith) k
+  write-by Flash64 s a v e k = flash-by s a v 16 (ap memorySize e) (omega arith) (omega arith) k
+  write-by Flash128 s a v e k = flash-by s a v 32 (ap memorySize e) (omega arith) (omega arith) k
   write-by Eeprom512 s a v e k = byte-by s (s .cart .dirty) (a % 8192) v k
   write-by Eeprom8k s a v e k = byte-by s (s .cart .dirty) (a % 8192) v k
 
@@ -189,7 +178,7 @@ step-next P c d s f p =
     (λ e. f (yes-all (questions c d s) (numbers c d s) (eqb-true (asked (questions c d s)) 0 e)))
     (λ e. p)
 
-pub step-accepted : (c : Call) (d : List ℕ) (s : State) → AllYes (questions c d s) → step c d s ≡ accepted c d s
+pub step-accepted : (c : Call) (d : List ℕ) (s : State) → AllYes (questions c d s) → step c d s ≡ counted s (accepted c d s)
 unfolding step
 step-accepted c d s y = rw (all-yes (questions c d s) y)
 

@@ -22,7 +22,8 @@ use Rattle.eeprom.specs.Eeprom.{told, beginDma, dmaQuestion, bitIn, readBit, af
 use Rattle.cart.specs.declared.ChipRecord.{ChipRecord}
 use Rattle.cart.specs.declared.Cartridge.{Cartridge}
 use Rattle.cart.specs.ChipState.{bit, chipBytes, chipOf, stateQuestions}
-use Rattle.cart.specs.Record.{State, Outcome, guarded, outcome, outcomeOf, recordQuestion, memoryQuestion}
+use Rattle.cart.specs.Record.{State, Outcome, guarded, outcome, outcomeOf, counted}
+use Rattle.cart.specs.Record.{recordQuestion, memoryQuestion}
 
 -- "nine calls: byte read, byte write, DMA, bit in, bit out, load, export, `chip_state`, `take_save_dirty`"
 pub data Call : Type 0 where
@@ -131,10 +132,11 @@ accepted (loadSave f) d s = outcome [] (load s f) d
 accepted saveData d s = exported (fileOf (s .cart .kind) s) d s
 accepted chipState d s = outcome (chipBytes (s .cart .chip)) s d
 accepted takeSaveDirty d s =
-    outcomeOf 0 [] (s .cart .dirty) (stateWith s false (s .cart .chip) (s .memory)) d
+    outcomeOf 0 [] (s .cart .dirty) 0 (stateWith s false (s .cart .chip) (s .memory)) d
 
+-- a call of the nine, with the number of places that it changed
 unfoldable pub step : Call → List ℕ → State → Outcome
-step c d s = guarded (questions c d s) d s (accepted c d s)
+step c d s = guarded (questions c d s) d s (counted s (accepted c d s))
 
 -- "Restore replaces the chip record alone."
 abbrev pub restoreQuestions : List ℕ → State → List Question
@@ -151,7 +153,7 @@ importQuestions f s = question2 s ∷ question3 s ∷ taken (saveFit (s .cart .k
 unfoldable pub importSave : List ℕ → State → Outcome
 importSave f s =
     let part = keptPart (s .cart .kind) f in
-    guarded (importQuestions f s) [] s (outcome (length part ∷ []) (load s part) [])
+    guarded (importQuestions f s) [] s (counted s (outcome (length part ∷ []) (load s part) []))
 
 -- `uses_eeprom`, `eeprom_window_start`
 unfoldable pub usesEepromOf : Cartridge → Answer

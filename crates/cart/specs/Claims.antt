@@ -41,7 +41,8 @@ withPart p s =
     }
 
 abbrev pub outcomeWith : Part → Outcome → Outcome
-outcomeWith p o = outcomeOf (o .refusal) (o .given) (o .flag) (withPart p (o .next)) (o .destination)
+outcomeWith p o =
+    outcomeOf (o .refusal) (o .given) (o .flag) (o .changed) (withPart p (o .next)) (o .destination)
 
 -- the part is the one that opening was given: no call, restore or import touches it; and whichever part fits, each call
 -- but a byte read in ID mode answers and does the same

@@ -46,11 +46,16 @@ pub record Turn : Type 0 where
 
 -- "Compared are the answers of the list's own calls, with refusal numbers and the bytes of export destinations, and
 -- at the list's end the file, or that there is none, and the 18 bytes. Left out are the answer of `take_save_dirty`
--- and the flag in the records."
+-- and the flag in the records." The number of places changed is such an answer.
 pub record Shown : Type 0 where
   pub refusal : ℕ
   pub given : List ℕ
+  pub changed : ℕ
   pub destination : List ℕ
+
+abbrev pub shown : Outcome → Shown
+shown o =
+    record { refusal = o .refusal; given = o .given; changed = o .changed; destination = o .destination }
 
 pub record Compared : Type 0 where
   pub calls : List Shown
@@ -58,12 +63,7 @@ pub record Compared : Type 0 where
   pub bytes : List ℕ
 
 abbrev pub before : Outcome → Compared → Compared
-before o r =
-    record {
-      calls = record { refusal = o .refusal; given = o .given; destination = o .destination } ∷ r .calls;
-      file = r .file;
-      bytes = r .bytes;
-    }
+before o r = record { calls = shown o ∷ r .calls; file = r .file; bytes = r .bytes }
 
 unfoldable pub run : List ℕ → ℕ → List ℕ → List Turn → State → Compared
 run image part memory [] s = record { calls = []; file = fileLeft s; bytes = bytesLeft s }

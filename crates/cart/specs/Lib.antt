@@ -4,6 +4,7 @@ pub mod Calls
 pub mod Replies
 pub mod Cut
 pub mod Claims
+pub mod Counts
 pub mod Gbatek
 pub mod Cases
 pub mod Resume

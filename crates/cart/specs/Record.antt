@@ -5,7 +5,7 @@ use Prim.Native.Nat.{ℕ}
 use lib.Dec.{eqb}
 use lib.ListN.{length}
 use Rattle.lists.specs.Questions.{Question, _else_, asked}
-use Rattle.memory.specs.Memory.{erased}
+use Rattle.memory.specs.Memory.{erased, differing}
 use Rattle.image.specs.Image.{imageLength, imageQuestion}
 use Rattle.kind.specs.declared.SaveType.{SaveType}
 use Rattle.kind.specs.declared.SaveType.the-variants.{None}
@@ -24,24 +24,32 @@ pub record State : Type 0 where
   pub memory : List ℕ
 
 -- what a call returns and leaves: the number of a refusal or 0, the numbers that it answers, the answer of
--- `take_save_dirty`, record and memory, and the destination that it was passed
+-- `take_save_dirty`, how many places of the memory it changed, record and memory, and the destination that it was
+-- passed
 pub record Outcome : Type 0 where
   pub refusal : ℕ
   pub given : List ℕ
   pub flag : Bool
+  pub changed : ℕ
   pub next : State
   pub destination : List ℕ
 
 -- every outcome is made here
-abbrev pub outcomeOf : ℕ → List ℕ → Bool → State → List ℕ → Outcome
-outcomeOf refusal given flag s d = record { refusal = refusal; given = given; flag = flag; next = s; destination = d }
+abbrev pub outcomeOf : ℕ → List ℕ → Bool → ℕ → State → List ℕ → Outcome
+outcomeOf refusal given flag changed s d =
+    record { refusal = refusal; given = given; flag = flag; changed = changed; next = s; destination = d }
 
 abbrev pub outcome : List ℕ → State → List ℕ → Outcome
-outcome given s d = outcomeOf 0 given false s d
+outcome given s d = outcomeOf 0 given false 0 s d
 
 -- "A no returns the number, the record as given, all buffers unchanged"
 abbrev pub refused : ℕ → State → List ℕ → Outcome
-refused number s d = outcomeOf number [] false s d
+refused number s d = outcomeOf number [] false 0 s d
+
+-- 02, ticket 2: "Every store .. also answers the number of memory places whose value differs from before."
+abbrev pub counted : State → Outcome → Outcome
+counted s o =
+    outcomeOf (o .refusal) (o .given) (o .flag) (differing (s .memory) (o .next .memory)) (o .next) (o .destination)
 
 abbrev pub guarded : List Question → List ℕ → State → Outcome → Outcome
 guarded qs d s o = cond (eqb (asked qs) 0) o (refused (asked qs) s d)

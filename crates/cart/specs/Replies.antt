@@ -1,5 +1,5 @@
--- How a call returns what the machine answers: a refusal's number or 0, one number or 0, and the record; each
--- buffer is left as the machine leaves it.
+-- How a call returns what the machine answers: a refusal's number or 0, one number or 0, how many places of the memory
+-- it changed, and the record; each buffer is left as the machine leaves it.
 use mathlib.Core.Bool.{Bool}
 use mathlib.Core.List.{List, [], _∷_}
 use Prim.Native.Nat.{ℕ}
@@ -21,14 +21,18 @@ abbrev pub cartWith : Cartridge → Bool → ChipRecord → Cartridge
 cartWith c dirty chip = record { len = c .len; kind = c .kind; part = c .part; dirty = dirty; chip = chip }
 
 -- every reply is made here
-abbrev pub reply : ℕ → ℕ → Cartridge → Reply
-reply refusal value cart = record { refusal = refusal; value = value; cart = cart }
+abbrev pub reply : ℕ → ℕ → ℕ → Cartridge → Reply
+reply refusal value changed cart = record { refusal = refusal; value = value; changed = changed; cart = cart }
 
+-- of a call that stores nothing, and of one that stores
 abbrev pub done : ℕ → Cartridge → Reply
-done value cart = reply 0 value cart
+done value cart = reply 0 value 0 cart
+
+abbrev pub stored : ℕ → Cartridge → Reply
+stored changed cart = reply 0 0 changed cart
 
 abbrev pub refused : ℕ → Cartridge → Reply
-refused number cart = reply number 0 cart
+refused number cart = reply number 0 0 cart
 
 -- the number that a call answers; 0 stands for none
 abbrev pub first : List ℕ → ℕ
@@ -36,7 +40,7 @@ first [] = 0
 first (n ∷ l) = n
 
 abbrev pub replyOf : Outcome → Reply
-replyOf o = reply (o .refusal) (first (o .given)) (o .next .cart)
+replyOf o = reply (o .refusal) (first (o .given)) (o .changed) (o .next .cart)
 
 -- with the memory, and with the destination that the call was passed
 abbrev pub replied : Outcome → Reply × List ℕ
@@ -47,4 +51,4 @@ exportReplied o = (replyOf o, o .destination)
 
 -- of `take_save_dirty`
 abbrev pub flagReplied : Outcome → Reply × List ℕ
-flagReplied o = (reply (o .refusal) (bit (o .flag)) (o .next .cart), o .next .memory)
+flagReplied o = (reply (o .refusal) (bit (o .flag)) (o .changed) (o .next .cart), o .next .memory)

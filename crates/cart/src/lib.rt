@@ -21,7 +21,7 @@ pub use state_bytes::state_questions;
 ghost use mathlib.Core.Path.{_≡_};
 ghost use Rattle.cart.specs.ChipState.{bit as bit·spec};
 ghost use Rattle.cart.specs.Record.{freshChip, isLarge, freshCart};
-ghost use Rattle.cart.specs.Replies.{reply, done as done·spec, refused, chipRecord, cartWith};
+ghost use Rattle.cart.specs.Replies.{reply, done as done·spec, stored as stored·spec, refused, chipRecord, cartWith};
 
 // The 18 bytes of `chip_state`.
 pub struct ChipRecord {
@@ -40,10 +40,12 @@ pub struct Cartridge {
     pub chip: ChipRecord,
 }
 
-// What a call returns: the number of a refusal or 0, the number that it answers or 0, and the record.
+// What a call returns: the number of a refusal or 0, the number that it answers or 0, how many bytes of the memory it
+// changed, and the record.
 pub struct Reply {
     pub refusal: u8,
     pub value: u32,
+    pub changed: u32,
     pub cart: Cartridge,
 }
 
@@ -54,27 +56,36 @@ pub fn bit(b: bool) -> u8
 }
 
 // Every reply is made here.
-fn reply_with(refusal: u8, value: u32, cart: Cartridge) -> Reply
-    ensures { λ r. ⌜ r ≡ reply refusal value cart ⌝ }
+fn reply_with(refusal: u8, value: u32, changed: u32, cart: Cartridge) -> Reply
+    ensures { λ r. ⌜ r ≡ reply refusal value changed cart ⌝ }
 {
     Reply {
         refusal: refusal,
         value: value,
+        changed: changed,
         cart: cart,
     }
 }
 
+// Of a call that stores nothing.
 pub fn done(value: u32, cart: Cartridge) -> Reply
     ensures { λ r. ⌜ r ≡ done·spec value cart ⌝ }
 {
-    reply_with(0, value, cart)
+    reply_with(0, value, 0, cart)
+}
+
+// Of a call that stores.
+pub fn stored(changed: u32, cart: Cartridge) -> Reply
+    ensures { λ r. ⌜ r ≡ stored·spec changed cart ⌝ }
+{
+    reply_with(0, 0, changed, cart)
 }
 
 // The record as given.
 pub fn refuse(number: u8, cart: Cartridge) -> Reply
     ensures { λ r. ⌜ r ≡ refused number cart ⌝ }
 {
-    reply_with(number, 0, cart)
+    reply_with(number, 0, 0, cart)
 }
 
 pub fn cart_with(cart: Cartridge, dirty: bool, chip: ChipRecord) -> Cartridge

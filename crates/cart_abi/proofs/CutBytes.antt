@@ -31,10 +31,10 @@ use Rattle.cart.proofs.Recoverable.{Recoverable, NoByteWrite, recoverable-step,
 use Rattle.cart.proofs.Resume.{Long, file-long, export-accepted, state-accepted, file-left, bytes-left, load-allowed, load-next, acc-lt, resumed-is, open-fresh, quiet}
 use Rattle.cart.proofs.CutRuns.{unflagged, either-quiet, step-same, recoverable-flag, left-same}
 use Rattle.c_record.specs.RecordBytes.{recordBytes, chipIn, cartOf, isRecord, stateOf}
-use Rattle.c_record.specs.AtExit.{AtExit, left, called, plain, valueAt, flagAt, stateAt, exportAt}
+use Rattle.c_record.specs.AtExit.{AtExit, left, called, plain, valueAt, changedAt, importAt, flagAt, stateAt, exportAt}
 use Rattle.c_record.proofs.RecordBytes.{yes, record-and-bytes}
 use Rattle.cart_abi.specs.Host.{ExportedCall, saveRead, saveWrite, eepromBeginDma, eepromWrite, eepromRead, loadSave, saveData, chipState, takeSaveDirty, importSave}
-use Rattle.cart_abi.specs.Host.{Bytes, Found, Made, plainly, valued, filed, stated, flagged, make}
+use Rattle.cart_abi.specs.Host.{Bytes, Found, Made, plainly, valued, stored, imported, filed, stated, flagged, make}
 use Rattle.cart_abi.specs.CutBytes as bytes
 use Rattle.cart_abi.specs.CutBytes.{Target, anew, inPlace, Buffers, Turn, before, outcomeOf, foundOf, machineRun, callsOf, uncut, NoByteWrites, ExportedCutRuns}
 
@@ -59,28 +59,28 @@ seen m = (m .found, m .next)
 make-is : (c : ExportedCall) (s : State) → Sound s → seen (make c (bytesOf s)) ≡ (foundOf c (outcomeOf c s), bytesOf (outcomeOf c s .next))
 unfolding make
 make-is (saveRead a p) s k = ap (λ (x : AtExit). seen (valued (valueAt p x))) (at-record (step (machine.saveRead a) []) [] s k)
-make-is (saveWrite a v) s k = ap (λ (x : AtExit). seen (plainly (plain x))) (at-record (step (machine.saveWrite a v) []) [] s k)
+make-is (saveWrite a v p) s k = ap (λ (x : AtExit). seen (stored (changedAt p x))) (at-record (step (machine.saveWrite a v) []) [] s k)
 make-is (eepromBeginDma words) s k = ap (λ (x : AtExit). seen (plainly (plain x))) (at-record (step (machine.eepromBeginDma words) []) [] s k)
-make-is (eepromWrite v) s k = ap (λ (x : AtExit). seen (plainly (plain x))) (at-record (step (machine.eepromWrite v) []) [] s k)
+make-is (eepromWrite v p) s k = ap (λ (x : AtExit). seen (stored (changedAt p x))) (at-record (step (machine.eepromWrite v) []) [] s k)
 make-is (eepromRead p) s k = ap (λ (x : AtExit). seen (valued (valueAt p x))) (at-record (step machine.eepromRead []) [] s k)
-make-is (loadSave f) s k = ap (λ (x : AtExit). seen (plainly (plain x))) (at-record (step (machine.loadSave f) []) [] s k)
+make-is (loadSave f p) s k = ap (λ (x : AtExit). seen (stored (changedAt p x))) (at-record (step (machine.loadSave f) []) [] s k)
 make-is (saveData d p) s k = ap (λ (x : AtExit). seen (filed (exportAt p x))) (at-record (step machine.saveData d) d s k)
 make-is (chipState p) s k = ap (λ (x : AtExit). seen (stated (stateAt p x))) (at-record (step machine.chipState []) [] s k)
 make-is (takeSaveDirty p) s k = ap (λ (x : AtExit). seen (flagged (flagAt p x))) (at-record (step machine.takeSaveDirty []) [] s k)
-make-is (importSave f p) s k = ap (λ (x : AtExit). seen (valued (valueAt p x))) (at-record (machine.importSave f) [] s k)
+make-is (importSave f q p) s k = ap (λ (x : AtExit). seen (imported (importAt q p x))) (at-record (machine.importSave f) [] s k)
 
 -- what is compared does not show the flag
 found-quiet : (c : ExportedCall) (o : Outcome) → foundOf c (unflagged o) ≡ foundOf c o
 found-quiet (saveRead a p) o = refl
-found-quiet (saveWrite a v) o = refl
+found-quiet (saveWrite a v p) o = refl
 found-quiet (eepromBeginDma words) o = refl
-found-quiet (eepromWrite v) o = refl
+found-quiet (eepromWrite v p) o = refl
 found-quiet (eepromRead p) o = refl
-found-quiet (loadSave f) o = refl
+found-quiet (loadSave f p) o = refl
 found-quiet (saveData d p) o = refl
 found-quiet (chipState p) o = refl
 found-quiet (takeSaveDirty p) o = refl
-found-quiet (importSave f p) o = refl
+found-quiet (importSave f q p) o = refl
 
 -- an import is a load, or it is refused
 recoverable-import : (image : List ℕ) (part : ℕ) (f : List ℕ) (s : State) → Recoverable image part s → Recoverable image part (machine.importSave f s .next)
@@ -104,17 +104,17 @@ data Way (image : List ℕ) : (State → Outcome) → Type 0 where
   nine : (c : Call) (d : List ℕ) → NoByteWrite (detectSaveType image) c → Way image (step c d)
   import : (f : List ℕ) → Way image (machine.importSave f)
 
-way : (image : List ℕ) (c : ExportedCall) → ((a v : ℕ) → saveWrite a v ≡ c → usesEeprom (detectSaveType image) ≡ false) → Way image (outcomeOf c)
+way : (image : List ℕ) (c : ExportedCall) → ((a v p : ℕ) → saveWrite a v p ≡ c → usesEeprom (detectSaveType image) ≡ false) → Way image (outcomeOf c)
 way image (saveRead a p) n = nine (machine.saveRead a) [] (λ a v e. cc)
-way image (saveWrite a v) n = nine (machine.saveWrite a v) [] (λ b w e. n a v refl)
+way image (saveWrite a v p) n = nine (machine.saveWrite a v) [] (λ b w e. n a v p refl)
 way image (eepromBeginDma words) n = nine (machine.eepromBeginDma words) [] (λ a v e. cc)
-way image (eepromWrite v) n = nine (machine.eepromWrite v) [] (λ a v e. cc)
+way image (eepromWrite v p) n = nine (machine.eepromWrite v) [] (λ a v e. cc)
 way image (eepromRead p) n = nine machine.eepromRead [] (λ a v e. cc)
-way image (loadSave f) n = nine (machine.loadSave f) [] (λ a v e. cc)
+way image (loadSave f p) n = nine (machine.loadSave f) [] (λ a v e. cc)
 way image (saveData d p) n = nine machine.saveData d (λ a v e. cc)
 way image (chipState p) n = nine machine.chipState [] (λ a v e. cc)
 way image (takeSaveDirty p) n = nine machine.takeSaveDirty [] (λ a v e. cc)
-way image (importSave f p) n = import f
+way image (importSave f q p) n = import f
 
 way-same : {image : List ℕ} {call : State → Outcome} → Way image call → (s t : State) → quiet s ≡ quiet t → unflagged (call s) ≡ unflagged (call t)
 way-same (nine c d n) s t e = step-same c d s t e
@@ -159,9 +159,9 @@ begun-is image part (inPlace b o) =
     }
 
 module _ (t : State) (a : recordAllowed (t .cart) ≡ true) (b : eqb (length (t .memory)) (memorySize (t .cart .kind)) ≡ true) (c : t .cart .chip .eeprom .acc < 2 ^ 64) where
-  reloaded-is : (o : Option (List ℕ)) → bytes.reloaded o (bytesOf t) ≡ bytesOf (uncutMachine.reloaded o t)
-  reloaded-is none = refl
-  reloaded-is (some f) = ap (λ (x : AtExit). plainly (plain x) .next) (at-allowed (step (machine.loadSave f) []) [] t a c)
+  reloaded-is : (p : ℕ) (o : Option (List ℕ)) → bytes.reloaded p o (bytesOf t) ≡ bytesOf (uncutMachine.reloaded o t)
+  reloaded-is p none = refl
+  reloaded-is p (some f) = ap (λ (x : AtExit). stored (changedAt p x) .next) (at-allowed (step (machine.loadSave f) []) [] t a c)
 
   reloaded-kept : (o : Option (List ℕ))
       → (recordAllowed (uncutMachine.reloaded o t .cart) ≡ true) × (uncutMachine.reloaded o t .cart .chip .eeprom .acc < 2 ^ 64)
@@ -217,9 +217,9 @@ module _ (image : List ℕ) (part : ℕ) (x : Buffers image part) (s : State) (r
       let f : Option (List ℕ) = uncutMachine.fileLeft s in
       let b : List ℕ = uncutMachine.bytesLeft s in
       let k = reloaded-kept t a m (y .accOk) f in
-      ap₂ (λ (l : List ℕ) (o : Option (List ℕ)). bytes.restored l (bytes.reloaded o (bytes.begun (x .target)))) state-is file-is
-      ∙ ap (λ (z : Bytes). bytes.restored b (bytes.reloaded f z)) (y .is)
-      ∙ ap (bytes.restored b) (reloaded-is t a m (y .accOk) f)
+      ap₂ (λ (l : List ℕ) (o : Option (List ℕ)). bytes.restored l (bytes.reloaded (x .changed) o (bytes.begun (x .target)))) state-is file-is
+      ∙ ap (λ (z : Bytes). bytes.restored b (bytes.reloaded (x .changed) f z)) (y .is)
+      ∙ ap (bytes.restored b) (reloaded-is t a m (y .accOk) (x .changed) f)
       ∙ restored-is b (uncutMachine.reloaded f t) (k .0) (k .1)
       ∙ ap bytesOf (resumed-is image part s t r (y .isOpen))
 
@@ -248,7 +248,7 @@ runs-are image part [] end s t n q r u =
 runs-are image part (x ∷ list) end s t n q r u =
     let c : ExportedCall = x .call in
     let o : State → Outcome = outcomeOf c in
-    let w = way image c (λ a v p. n a v (List·Memᴰ·head p)) in
+    let w = way image c (λ a v p e. n a v p (List·Memᴰ·head e)) in
     let e : unflagged (o s) ≡ unflagged (o t) = way-same w s t q in
     let f : foundOf c (o s) ≡ foundOf c (o t) =
     sym (found-quiet c (o s)) ∙ ap (foundOf c) e ∙ found-quiet c (o t)
@@ -256,7 +256,7 @@ runs-are image part (x ∷ list) end s t n q r u =
     let a = cuts-are image part (x .cutsBehind) (o s .next) (way-stands part w s r) in
     let i : bytes.run image part list end (bytes.cuts image part (x .cutsBehind) (bytesOf (o s .next))) ≡ machineRun (callsOf list) (o t .next) =
     ap (bytes.run image part list end) (a .is)
-    ∙ runs-are image part list end (a .at) (o t .next) (λ b v p. n b v (List·Memᴰ·tail p)) (a .alike ∙ ap (λ (z : Outcome). z .next) e) (a .stands) (way-stands part w t u)
+    ∙ runs-are image part list end (a .at) (o t .next) (λ b v p e. n b v p (List·Memᴰ·tail e)) (a .alike ∙ ap (λ (z : Outcome). z .next) e) (a .stands) (way-stands part w t u)
     in
     ap (λ (m : Found × Bytes). before (m .0) (bytes.run image part list end (bytes.cuts image part (x .cutsBehind) (m .1)))) (make-is c s (r .sound))
     ∙ (λ j. before (f j) (i j))

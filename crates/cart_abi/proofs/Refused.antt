@@ -1,9 +1,8 @@
 -- A refused call leaves all that it was passed. Assumes nothing.
-use mathlib.Core.Path.{_≡_, refl, ap, _∙_}
+use mathlib.Core.Path.{_≡_, refl, ap, ap₂, _∙_}
 use mathlib.Core.Logic.{_≢_}
 use mathlib.Core.Bool.{true}
 use mathlib.Core.List.{List, [], _∷_}
-use mathlib.Core.Option.{Option, none, some}
 use Prim.Native.Nat.{ℕ}
 use lib.Dec.{eqb}
 use lib.ListN.{length, replicate}
@@ -17,15 +16,16 @@ use Rattle.file_sizes.specs.SaveFit.{keptPart}
 use Rattle.out_params.specs.Places.{placed, answeredAt, titleAt}
 use Rattle.cart.specs.declared.Cartridge.{Cartridge}
 use Rattle.cart.specs.ChipState.{chipOf}
-use Rattle.cart.specs.Record.{State, Outcome, guarded, refused, openQuestions, outcome, fromBytes}
+use Rattle.cart.specs.Record.{State, Outcome, guarded, refused, counted, openQuestions, outcome, fromBytes}
 use Rattle.cart.specs.Calls as machine
-use Rattle.cart.specs.Calls.{Call, stateWith, load, fileOf, exported, questions, accepted, step, restoreQuestions, restore, importQuestions}
+use Rattle.cart.specs.Calls.{Call, stateWith, load, questions, accepted, step, restoreQuestions, restore, importQuestions}
+use Rattle.cart.proofs.Counts.{accepted-0}
 use Rattle.c_record.specs.RecordBytes.{cartOf, isRecord, stateOf}
-use Rattle.c_record.specs.AtExit.{AtExit, left, untouched, called, plain, valueAt, flagAt, stateAt, exportAt, askedAt}
+use Rattle.c_record.specs.AtExit.{AtExit, left, untouched, called, plain, valueAt, changedAt, importAt, flagAt, stateAt, exportAt, askedAt}
 use Rattle.c_record.specs.Calls as calls
 use Rattle.c_record.proofs.RecordBytes.{record-and-bytes}
 use Rattle.cart_abi.specs.Host.{ExportedCall, saveRead, saveWrite, eepromBeginDma, eepromWrite, eepromRead, loadSave, saveData, chipState, takeSaveDirty, importSave}
-use Rattle.cart_abi.specs.Host.{Bytes, found, made, plainly, valued, filed, stated, flagged, make}
+use Rattle.cart_abi.specs.Host.{Bytes, found, made, plainly, valued, stored, imported, filed, stated, flagged, make}
 use Rattle.cart_abi.specs.Claims.{unchanged, RefusedLeaves}
 
 -- the machine's calls on a record, each with the destination that it is passed
@@ -41,29 +41,13 @@ guarded-leaves : (qs : List Question) (d : List ℕ) (s : State) (o : Outcome) �
 guarded-leaves qs d s o z =
     split (λ (x : Outcome). x .refusal ≢ 0 → x ≡ refused (x .refusal) s d) (eqb (asked qs) 0) (λ t h. absurd (h z)) (λ t h. refl)
 
-exported-0 : (f : Option (List ℕ)) (d : List ℕ) (s : State) → exported f d s .refusal ≡ 0
-exported-0 none d s = refl
-exported-0 (some f) d s = refl
-
-accepted-0 : (c : Call) (d : List ℕ) (s : State) → accepted c d s .refusal ≡ 0
-unfolding accepted
-accepted-0 (machine.saveRead a) d s = refl
-accepted-0 (machine.saveWrite a v) d s = refl
-accepted-0 (machine.eepromBeginDma words) d s = refl
-accepted-0 (machine.eepromWrite v) d s = refl
-accepted-0 machine.eepromRead d s = refl
-accepted-0 (machine.loadSave f) d s = refl
-accepted-0 machine.saveData d s = exported-0 (fileOf (s .cart .kind) s) d s
-accepted-0 machine.chipState d s = refl
-accepted-0 machine.takeSaveDirty d s = refl
-
 machine-leaves : {call : State → Outcome} {d : List ℕ} → MachineCall call d → (s : State) → call s .refusal ≢ 0 → call s ≡ refused (call s .refusal) s d
 unfolding step restore machine.importSave
-machine-leaves (ofNine c d) s = guarded-leaves (questions c d s) d s (accepted c d s) (accepted-0 c d s)
+machine-leaves (ofNine c d) s = guarded-leaves (questions c d s) d s (counted s (accepted c d s)) (accepted-0 c d s .0)
 machine-leaves (ofRestore b) s = guarded-leaves (restoreQuestions b s) [] s (outcome [] (stateWith s (s .cart .dirty) (chipOf b) (s .memory)) []) refl
 machine-leaves (ofImport f) s =
     let part = keptPart (s .cart .kind) f in
-    guarded-leaves (importQuestions f s) [] s (outcome (length part ∷ []) (load s part) []) refl
+    guarded-leaves (importQuestions f s) [] s (counted s (outcome (length part ∷ []) (load s part) [])) refl
 
 -- and so a record's bytes
 bytes-leave : {call : State → Outcome} {d : List ℕ} → MachineCall call d → (r m : List ℕ) → areBytes r ≡ true
@@ -91,33 +75,41 @@ module _ {call : State → Outcome} {d : List ℕ} (q : MachineCall call d) (b :
   abbrev leaves : exit ≡ untouched n d (b .bytes) (b .memory)
   leaves = bytes-leave q (b .bytes) (b .memory) h z
 
-  plain-leaves : plainly (plain exit) ≡ made (found n 0 []) 0 (b .bytes) (b .memory)
+  plain-leaves : plainly (plain exit) ≡ made (found n 0 0 []) 0 (b .bytes) (b .memory)
   plain-leaves = ap (λ (x : AtExit). plainly (plain x)) leaves
 
-  value-leaves : (p : ℕ) → valued (valueAt p exit) ≡ made (found n p []) 0 (b .bytes) (b .memory)
-  value-leaves p = ap (λ (x : AtExit). valued (valueAt p x)) leaves ∙ ap (λ (v : ℕ). made (found n v []) 0 (b .bytes) (b .memory)) (kept n 0 p z)
+  value-leaves : (p : ℕ) → valued (valueAt p exit) ≡ made (found n p 0 []) 0 (b .bytes) (b .memory)
+  value-leaves p = ap (λ (x : AtExit). valued (valueAt p x)) leaves ∙ ap (λ (v : ℕ). made (found n v 0 []) 0 (b .bytes) (b .memory)) (kept n 0 p z)
 
-  flag-leaves : (p : ℕ) → flagged (flagAt p exit) ≡ made (found n 0 []) p (b .bytes) (b .memory)
-  flag-leaves p = ap (λ (x : AtExit). flagged (flagAt p x)) leaves ∙ ap (λ (v : ℕ). made (found n 0 []) v (b .bytes) (b .memory)) (kept n 0 p z)
+  store-leaves : (p : ℕ) → stored (changedAt p exit) ≡ made (found n 0 p []) 0 (b .bytes) (b .memory)
+  store-leaves p = ap (λ (x : AtExit). stored (changedAt p x)) leaves ∙ ap (λ (v : ℕ). made (found n 0 v []) 0 (b .bytes) (b .memory)) (kept n 0 p z)
 
-  state-leaves : (p : List ℕ) → stated (stateAt p exit) ≡ made (found n 0 p) 0 (b .bytes) (b .memory)
-  state-leaves p = ap (λ (x : AtExit). stated (stateAt p x)) leaves ∙ ap (λ (v : List ℕ). made (found n 0 v) 0 (b .bytes) (b .memory)) (kept n [] p z)
+  import-leaves : (k p : ℕ) → imported (importAt k p exit) ≡ made (found n k p []) 0 (b .bytes) (b .memory)
+  import-leaves k p =
+      ap (λ (x : AtExit). imported (importAt k p x)) leaves
+      ∙ ap₂ (λ (v w : ℕ). made (found n v w []) 0 (b .bytes) (b .memory)) (kept n 0 k z) (kept n 0 p z)
 
-  file-leaves : (p : ℕ) → filed (exportAt p exit) ≡ made (found n p d) 0 (b .bytes) (b .memory)
-  file-leaves p = ap (λ (x : AtExit). filed (exportAt p x)) leaves ∙ ap (λ (v : ℕ). made (found n v d) 0 (b .bytes) (b .memory)) (kept n 0 p z)
+  flag-leaves : (p : ℕ) → flagged (flagAt p exit) ≡ made (found n 0 0 []) p (b .bytes) (b .memory)
+  flag-leaves p = ap (λ (x : AtExit). flagged (flagAt p x)) leaves ∙ ap (λ (v : ℕ). made (found n 0 0 []) v (b .bytes) (b .memory)) (kept n 0 p z)
+
+  state-leaves : (p : List ℕ) → stated (stateAt p exit) ≡ made (found n 0 0 p) 0 (b .bytes) (b .memory)
+  state-leaves p = ap (λ (x : AtExit). stated (stateAt p x)) leaves ∙ ap (λ (v : List ℕ). made (found n 0 0 v) 0 (b .bytes) (b .memory)) (kept n [] p z)
+
+  file-leaves : (p : ℕ) → filed (exportAt p exit) ≡ made (found n p 0 d) 0 (b .bytes) (b .memory)
+  file-leaves p = ap (λ (x : AtExit). filed (exportAt p x)) leaves ∙ ap (λ (v : ℕ). made (found n v 0 d) 0 (b .bytes) (b .memory)) (kept n 0 p z)
 
 calls-leave : (c : ExportedCall) (b : Bytes) → areBytes (b .bytes) ≡ true → make c b .found .answer ≢ 0 → make c b ≡ unchanged c (make c b .found .answer) b
 unfolding make
 calls-leave (saveRead a p) b h z = value-leaves (ofNine (machine.saveRead a) []) b h z p
-calls-leave (saveWrite a v) b h z = plain-leaves (ofNine (machine.saveWrite a v) []) b h z
+calls-leave (saveWrite a v p) b h z = store-leaves (ofNine (machine.saveWrite a v) []) b h z p
 calls-leave (eepromBeginDma words) b h z = plain-leaves (ofNine (machine.eepromBeginDma words) []) b h z
-calls-leave (eepromWrite v) b h z = plain-leaves (ofNine (machine.eepromWrite v) []) b h z
+calls-leave (eepromWrite v p) b h z = store-leaves (ofNine (machine.eepromWrite v) []) b h z p
 calls-leave (eepromRead p) b h z = value-leaves (ofNine machine.eepromRead []) b h z p
-calls-leave (loadSave f) b h z = plain-leaves (ofNine (machine.loadSave f) []) b h z
+calls-leave (loadSave f p) b h z = store-leaves (ofNine (machine.loadSave f) []) b h z p
 calls-leave (saveData d p) b h z = file-leaves (ofNine machine.saveData d) b h z p
 calls-leave (chipState p) b h z = state-leaves (ofNine machine.chipState []) b h z p
 calls-leave (takeSaveDirty p) b h z = flag-leaves (ofNine machine.takeSaveDirty []) b h z p
-calls-leave (importSave f p) b h z = value-leaves (ofImport f) b h z p
+calls-leave (importSave f k p) b h z = import-leaves (ofImport f) b h z k p
 
 opening : (image : List ℕ) (part : ℕ) (m : List ℕ) → calls.opens image part m .0 ≢ 0 → calls.opens image part m ≡ (calls.opens image part m .0, replicate 25 0, m)
 unfolding fromBytes

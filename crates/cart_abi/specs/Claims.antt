@@ -17,18 +17,18 @@ use Rattle.cart_abi.specs.Host.{ExportedCall, saveRead, saveWrite, eepro
 use Rattle.cart_abi.specs.Host.{loadSave, saveData, chipState, takeSaveDirty, importSave}
 use Rattle.cart_abi.specs.Host.{Bytes, Made, found, made, make}
 
--- a call that returns n and leaves record, memory, destination, state and out-parameter as they were passed
+-- a call that returns n and leaves record, memory, destination, state and out-parameters as they were passed
 abbrev pub unchanged : ExportedCall → ℕ → Bytes → Made
-unchanged (saveRead a p) n b = made (found n p []) 0 (b .bytes) (b .memory)
-unchanged (saveWrite a v) n b = made (found n 0 []) 0 (b .bytes) (b .memory)
-unchanged (eepromBeginDma words) n b = made (found n 0 []) 0 (b .bytes) (b .memory)
-unchanged (eepromWrite v) n b = made (found n 0 []) 0 (b .bytes) (b .memory)
-unchanged (eepromRead p) n b = made (found n p []) 0 (b .bytes) (b .memory)
-unchanged (loadSave f) n b = made (found n 0 []) 0 (b .bytes) (b .memory)
-unchanged (saveData d p) n b = made (found n p d) 0 (b .bytes) (b .memory)
-unchanged (chipState p) n b = made (found n 0 p) 0 (b .bytes) (b .memory)
-unchanged (takeSaveDirty p) n b = made (found n 0 []) p (b .bytes) (b .memory)
-unchanged (importSave f p) n b = made (found n p []) 0 (b .bytes) (b .memory)
+unchanged (saveRead a p) n b = made (found n p 0 []) 0 (b .bytes) (b .memory)
+unchanged (saveWrite a v p) n b = made (found n 0 p []) 0 (b .bytes) (b .memory)
+unchanged (eepromBeginDma words) n b = made (found n 0 0 []) 0 (b .bytes) (b .memory)
+unchanged (eepromWrite v p) n b = made (found n 0 p []) 0 (b .bytes) (b .memory)
+unchanged (eepromRead p) n b = made (found n p 0 []) 0 (b .bytes) (b .memory)
+unchanged (loadSave f p) n b = made (found n 0 p []) 0 (b .bytes) (b .memory)
+unchanged (saveData d p) n b = made (found n p 0 d) 0 (b .bytes) (b .memory)
+unchanged (chipState p) n b = made (found n 0 0 p) 0 (b .bytes) (b .memory)
+unchanged (takeSaveDirty p) n b = made (found n 0 0 []) p (b .bytes) (b .memory)
+unchanged (importSave f k p) n b = made (found n k p []) 0 (b .bytes) (b .memory)
 
 -- "opening, given none, returns one of kind None with all else 0"
 abbrev pub noRecord : List ℕ

@@ -19,7 +19,7 @@ use Rattle.c_record.specs.RecordBytes.{isRecord, stateOf}
 use Rattle.c_record.specs.Calls.{opens, loads, exports, givesState, restores}
 use Rattle.cart_abi.specs.Host.{ExportedCall, saveRead, saveWrite, eepromBeginDma, eepromWrite, eepromRead}
 use Rattle.cart_abi.specs.Host.{loadSave, saveData, chipState, takeSaveDirty, importSave}
-use Rattle.cart_abi.specs.Host.{Bytes, Found, found, plainly, make}
+use Rattle.cart_abi.specs.Host.{Bytes, Found, found, plainly, stored, make}
 
 -- a valid record's bytes and a memory that are a cartridge of the image with the part, whatever its chip, memory and
 -- flag hold
@@ -41,12 +41,13 @@ abbrev pub begun : {image : List ℕ} {part : ℕ} → Target image part → Byt
 begun {image} {part} (anew memory h) = opened image part memory
 begun (inPlace b h) = b
 
--- what a host has for a cut: a destination as long as the kind's memory at least, places for the file's length and for
--- the state, whatever they hold, and where it goes on
+-- what a host has for a cut: a destination as long as the kind's memory at least, places for the file's length, for the
+-- state and for the number of places that the load changes, whatever they hold, and where it goes on
 pub record Buffers (image : List ℕ) (part : ℕ) : Type 0 where
   pub destination : List ℕ
   pub fileLength : ℕ
   pub state : List ℕ
+  pub changed : ℕ
   pub target : Target image part
   pub holds : memorySize (detectSaveType image) ≤ length destination
 
@@ -62,15 +63,15 @@ unfoldable pub stateLeft : {image : List ℕ} {part : ℕ} → Buffers image par
 stateLeft x b = givesState (b .bytes) (b .memory) (x .state) .3
 
 -- "load the file where there is one, restore"
-abbrev pub reloaded : Option (List ℕ) → Bytes → Bytes
-reloaded none b = b
-reloaded (some f) b = plainly (loads f (b .bytes) (b .memory)) .next
+abbrev pub reloaded : ℕ → Option (List ℕ) → Bytes → Bytes
+reloaded place none b = b
+reloaded place (some f) b = stored (loads f (b .bytes) (b .memory) place) .next
 
 abbrev pub restored : List ℕ → Bytes → Bytes
 restored state b = plainly (restores state (b .bytes) (b .memory)) .next
 
 unfoldable pub cut : (image : List ℕ) (part : ℕ) → Buffers image part → Bytes → Bytes
-cut image part x b = restored (stateLeft x b) (reloaded (fileLeft x b) (begun (x .target)))
+cut image part x b = restored (stateLeft x b) (reloaded (x .changed) (fileLeft x b) (begun (x .target)))
 
 unfoldable pub cuts : (image : List ℕ) (part : ℕ) → List (Buffers image part) → Bytes → Bytes
 cuts image part [] b = b
@@ -102,30 +103,33 @@ run image part (t ∷ list) end b =
 -- document 01's machine, and what of its answers a host finds
 abbrev pub outcomeOf : ExportedCall → State → Outcome
 outcomeOf (saveRead a p) = step (machine.saveRead a) []
-outcomeOf (saveWrite a v) = step (machine.saveWrite a v) []
+outcomeOf (saveWrite a v p) = step (machine.saveWrite a v) []
 outcomeOf (eepromBeginDma words) = step (machine.eepromBeginDma words) []
-outcomeOf (eepromWrite v) = step (machine.eepromWrite v) []
+outcomeOf (eepromWrite v p) = step (machine.eepromWrite v) []
 outcomeOf (eepromRead p) = step machine.eepromRead []
-outcomeOf (loadSave f) = step (machine.loadSave f) []
+outcomeOf (loadSave f p) = step (machine.loadSave f) []
 outcomeOf (saveData d p) = step machine.saveData d
 outcomeOf (chipState p) = step machine.chipState []
 outcomeOf (takeSaveDirty p) = step machine.takeSaveDirty []
-outcomeOf (importSave f p) = machine.importSave f
+outcomeOf (importSave f k p) = machine.importSave f
 
 abbrev pub numberAt : ℕ → Outcome → ℕ
 numberAt place o = placed (o .refusal) (first (o .given)) place
 
+abbrev pub changedAt : ℕ → Outcome → ℕ
+changedAt place o = placed (o .refusal) (o .changed) place
+
 abbrev pub foundOf : ExportedCall → Outcome → Found
-foundOf (saveRead a p) o = found (o .refusal) (numberAt p o) []
-foundOf (saveWrite a v) o = found (o .refusal) 0 []
-foundOf (eepromBeginDma words) o = found (o .refusal) 0 []
-foundOf (eepromWrite v) o = found (o .refusal) 0 []
-foundOf (eepromRead p) o = found (o .refusal) (numberAt p o) []
-foundOf (loadSave f) o = found (o .refusal) 0 []
-foundOf (saveData d p) o = found (o .refusal) (numberAt p o) (o .destination)
-foundOf (chipState p) o = found (o .refusal) 0 (placed (o .refusal) (o .given) p)
-foundOf (takeSaveDirty p) o = found (o .refusal) 0 []
-foundOf (importSave f p) o = found (o .refusal) (numberAt p o) []
+foundOf (saveRead a p) o = found (o .refusal) (numberAt p o) 0 []
+foundOf (saveWrite a v p) o = found (o .refusal) 0 (changedAt p o) []
+foundOf (eepromBeginDma words) o = found (o .refusal) 0 0 []
+foundOf (eepromWrite v p) o = found (o .refusal) 0 (changedAt p o) []
+foundOf (eepromRead p) o = found (o .refusal) (numberAt p o) 0 []
+foundOf (loadSave f p) o = found (o .refusal) 0 (changedAt p o) []
+foundOf (saveData d p) o = found (o .refusal) (numberAt p o) 0 (o .destination)
+foundOf (chipState p) o = found (o .refusal) 0 0 (placed (o .refusal) (o .given) p)
+foundOf (takeSaveDirty p) o = found (o .refusal) 0 0 []
+foundOf (importSave f k p) o = found (o .refusal) (numberAt k o) (changedAt p o) []
 
 -- the machine run uncut through the same list
 unfoldable pub machineRun : List ExportedCall → State → Compared
@@ -141,7 +145,8 @@ uncut = map (λ t. record { call = t .call; cutsBehind = [] })
 -- "no byte write to an EEPROM cartridge"
 abbrev pub NoByteWrites : List ℕ → List ExportedCall → Type 0
 NoByteWrites image list =
-    (address value : ℕ) → List·Memᴰ (saveWrite address value) list → usesEeprom (detectSaveType image) ≡ false
+    (address value changed : ℕ) → List·Memᴰ (saveWrite address value changed) list
+    → usesEeprom (detectSaveType image) ≡ false
 
 -- demand 3 of the exported calls: after an accepted opening and any cuts, a list with its cuts shows what document
 -- 01's machine shows uncut, and so what the list shows without its cuts

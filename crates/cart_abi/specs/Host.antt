@@ -6,33 +6,34 @@ use Rattle.c_record.specs.Calls.{reads, writes, announces, takesBit, givesBit, 
 use Rattle.c_record.specs.Calls.{givesState, takesFlag}
 
 -- the nine calls, and import, each with all that it is passed beside record and memory: its arguments, its
--- destination, and what its out-parameter holds
+-- destination, and what its out-parameters hold
 pub data ExportedCall : Type 0 where
   saveRead : (address value : ℕ) → ExportedCall
-  saveWrite : (address value : ℕ) → ExportedCall
+  saveWrite : (address value changed : ℕ) → ExportedCall
   eepromBeginDma : (words : ℕ) → ExportedCall
-  eepromWrite : (value : ℕ) → ExportedCall
+  eepromWrite : (value changed : ℕ) → ExportedCall
   eepromRead : (bit : ℕ) → ExportedCall
-  loadSave : (file : List ℕ) → ExportedCall
+  loadSave : (file : List ℕ) (changed : ℕ) → ExportedCall
   saveData : (destination : List ℕ) (length : ℕ) → ExportedCall
   chipState : (state : List ℕ) → ExportedCall
   takeSaveDirty : (flag : ℕ) → ExportedCall
-  importSave : (file : List ℕ) (kept : ℕ) → ExportedCall
+  importSave : (file : List ℕ) (kept changed : ℕ) → ExportedCall
 
 -- a record's bytes with the memory that is passed with them
 pub record Bytes : Type 0 where
   pub bytes : List ℕ
   pub memory : List ℕ
 
--- what a host finds after a call: the number returned, and what is then in the out-parameter, and in the destination
--- or the state; 0 and [] where the call has none
+-- what a host finds after a call: the number returned, and what is then in the out-parameter for a value, in that for
+-- the number of places changed, and in the destination or the state; 0 and [] where the call has none
 pub record Found : Type 0 where
   pub answer : ℕ
   pub place : ℕ
+  pub changed : ℕ
   pub destination : List ℕ
 
-abbrev pub found : ℕ → ℕ → List ℕ → Found
-found answer place d = record { answer = answer; place = place; destination = d }
+abbrev pub found : ℕ → ℕ → ℕ → List ℕ → Found
+found answer place changed d = record { answer = answer; place = place; changed = changed; destination = d }
 
 -- the out-parameter of `take_save_dirty` has a field of its own, which is left out of what is compared
 pub record Made : Type 0 where
@@ -43,30 +44,37 @@ pub record Made : Type 0 where
 abbrev pub made : Found → ℕ → List ℕ → List ℕ → Made
 made f flag r m = record { found = f; flag = flag; next = record { bytes = r; memory = m } }
 
--- from a contract: of a call without an out-parameter; with one; of export, `chip_state` and `take_save_dirty`
+-- from a contract: of a call without an out-parameter; with one for a value, for the places changed, for both; of
+-- export, `chip_state` and `take_save_dirty`
 abbrev pub plainly : ℕ × List ℕ × List ℕ → Made
-plainly x = made (found (x .0) 0 []) 0 (x .1) (x .2)
+plainly x = made (found (x .0) 0 0 []) 0 (x .1) (x .2)
 
 abbrev pub valued : ℕ × List ℕ × List ℕ × ℕ → Made
-valued x = made (found (x .0) (x .3) []) 0 (x .1) (x .2)
+valued x = made (found (x .0) (x .3) 0 []) 0 (x .1) (x .2)
+
+abbrev pub stored : ℕ × List ℕ × List ℕ × ℕ → Made
+stored x = made (found (x .0) 0 (x .3) []) 0 (x .1) (x .2)
+
+abbrev pub imported : ℕ × List ℕ × List ℕ × ℕ × ℕ → Made
+imported x = made (found (x .0) (x .3) (x .4) []) 0 (x .1) (x .2)
 
 abbrev pub filed : ℕ × List ℕ × List ℕ × List ℕ × ℕ → Made
-filed x = made (found (x .0) (x .4) (x .3)) 0 (x .1) (x .2)
+filed x = made (found (x .0) (x .4) 0 (x .3)) 0 (x .1) (x .2)
 
 abbrev pub stated : ℕ × List ℕ × List ℕ × List ℕ → Made
-stated x = made (found (x .0) 0 (x .3)) 0 (x .1) (x .2)
+stated x = made (found (x .0) 0 0 (x .3)) 0 (x .1) (x .2)
 
 abbrev pub flagged : ℕ × List ℕ × List ℕ × ℕ → Made
-flagged x = made (found (x .0) 0 []) (x .3) (x .1) (x .2)
+flagged x = made (found (x .0) 0 0 []) (x .3) (x .1) (x .2)
 
 unfoldable pub make : ExportedCall → Bytes → Made
 make (saveRead a p) b = valued (reads a (b .bytes) (b .memory) p)
-make (saveWrite a v) b = plainly (writes a v (b .bytes) (b .memory))
+make (saveWrite a v p) b = stored (writes a v (b .bytes) (b .memory) p)
 make (eepromBeginDma words) b = plainly (announces words (b .bytes) (b .memory))
-make (eepromWrite v) b = plainly (takesBit v (b .bytes) (b .memory))
+make (eepromWrite v p) b = stored (takesBit v (b .bytes) (b .memory) p)
 make (eepromRead p) b = valued (givesBit (b .bytes) (b .memory) p)
-make (loadSave f) b = plainly (loads f (b .bytes) (b .memory))
+make (loadSave f p) b = stored (loads f (b .bytes) (b .memory) p)
 make (saveData d p) b = filed (exports d (b .bytes) (b .memory) p)
 make (chipState p) b = stated (givesState (b .bytes) (b .memory) p)
 make (takeSaveDirty p) b = flagged (takesFlag (b .bytes) (b .memory) p)
-make (importSave f p) b = valued (imports f (b .bytes) (b .memory) p)
+make (importSave f k p) b = imported (imports f (b .bytes) (b .memory) k p)

@@ -26,11 +26,12 @@ pub extern "C" fn gbasave_save_write(
     memory: &mut [u8],
     address: u32,
     value: u8,
+    changed: &mut u32,
 ) -> u32
-    ensures { λ x. ⌜ (x, now (cart .exit), now (memory .exit))
-        ≡ writes address value (now (cart .entry)) (now (memory .entry)) ⌝ }
+    ensures { λ x. ⌜ (x, now (cart .exit), now (memory .exit), now (changed .exit))
+        ≡ writes address value (now (cart .entry)) (now (memory .entry)) (now (changed .entry)) ⌝ }
 {
-    c_byte_calls::save_write(cart, memory, address, value)
+    c_byte_calls::save_write(cart, memory, address, value, changed)
 }
 
 #[no_mangle]
@@ -41,11 +42,16 @@ pub extern "C" fn gbasave_eeprom_begin_dma(cart: &mut RecordBytes, words: u32) -
 }
 
 #[no_mangle]
-pub extern "C" fn gbasave_eeprom_write(cart: &mut RecordBytes, memory: &mut [u8], value: u16) -> u32
-    ensures { λ x. ⌜
-        (x, now (cart .exit), now (memory .exit)) ≡ takesBit value (now (cart .entry)) (now (memory .entry)) ⌝ }
+pub extern "C" fn gbasave_eeprom_write(
+    cart: &mut RecordBytes,
+    memory: &mut [u8],
+    value: u16,
+    changed: &mut u32,
+) -> u32
+    ensures { λ x. ⌜ (x, now (cart .exit), now (memory .exit), now (changed .exit))
+        ≡ takesBit value (now (cart .entry)) (now (memory .entry)) (now (changed .entry)) ⌝ }
 {
-    c_serial_calls::eeprom_write(cart, memory, value)
+    c_serial_calls::eeprom_write(cart, memory, value, changed)
 }
 
 #[no_mangle]
@@ -57,11 +63,16 @@ pub extern "C" fn gbasave_eeprom_read(cart: &mut RecordBytes, memory: &[u8], bit
 }
 
 #[no_mangle]
-pub extern "C" fn gbasave_load_save(cart: &mut RecordBytes, memory: &mut [u8], file: &[u8]) -> u32
-    ensures { λ x. ⌜ (x, now (cart .exit), now (memory .exit))
-        ≡ loads (now (file .entry)) (now (cart .entry)) (now (memory .entry)) ⌝ }
+pub extern "C" fn gbasave_load_save(
+    cart: &mut RecordBytes,
+    memory: &mut [u8],
+    file: &[u8],
+    changed: &mut u32,
+) -> u32
+    ensures { λ x. ⌜ (x, now (cart .exit), now (memory .exit), now (changed .exit))
+        ≡ loads (now (file .entry)) (now (cart .entry)) (now (memory .entry)) (now (changed .entry)) ⌝ }
 {
-    c_file_calls::load_save(cart, memory, file)
+    c_file_calls::load_save(cart, memory, file, changed)
 }
 
 // Kind None has no file: the length is then 0.
@@ -84,11 +95,13 @@ pub extern "C" fn gbasave_import_save(
     memory: &mut [u8],
     file: &[u8],
     kept: &mut u32,
+    changed: &mut u32,
 ) -> u32
-    ensures { λ x. ⌜ (x, now (cart .exit), now (memory .exit), now (kept .exit))
-        ≡ imports (now (file .entry)) (now (cart .entry)) (now (memory .entry)) (now (kept .entry)) ⌝ }
+    ensures { λ x. ⌜ (x, now (cart .exit), now (memory .exit), now (kept .exit), now (changed .exit))
+        ≡ imports (now (file .entry)) (now (cart .entry)) (now (memory .entry))
+        (now (kept .entry)) (now (changed .entry)) ⌝ }
 {
-    c_file_calls::import_save(cart, memory, file, kept)
+    c_file_calls::import_save(cart, memory, file, kept, changed)
 }
 
 #[no_mangle]

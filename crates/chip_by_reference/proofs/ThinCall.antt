@@ -29,10 +29,10 @@ module _ (len : ℕ) (kind : SaveType) (part : Part) (dirty : Bool) (chip : Chip
   same-plain = either (λ (o : Outcome). together len kind part (apart (replied o)) ≡ replied o) allowed refl refl
 
   refused-leaves : (n : ℕ) → n ≢ 0 → step (eepromWrite v) [] s .refusal ≡ n
-      → apart (plainCall len kind part dirty chip m v) ≡ (record { refusal = n; dirty = dirty }, chip, m)
+      → apart (plainCall len kind part dirty chip m v) ≡ (record { refusal = n; changed = 0; dirty = dirty }, chip, m)
   unfolding step accepted
   refused-leaves n h =
-      split (λ (o : Outcome). o .refusal ≡ n → apart (replied o) ≡ (record { refusal = n; dirty = dirty }, chip, m)) allowed (λ t e. absurd (h (sym e))) (λ t e. rw e)
+      split (λ (o : Outcome). o .refusal ≡ n → apart (replied o) ≡ (record { refusal = n; changed = 0; dirty = dirty }, chip, m)) allowed (λ t e. absurd (h (sym e))) (λ t e. rw e)
 
 pub thin-call : (len : ℕ) (kind : SaveType) (part : Part) (dirty : Bool) (chip : ChipRecord) (m : List ℕ) (v : ℕ) → ThinCall len kind part dirty chip m v
 thin-call len kind part dirty chip m v =

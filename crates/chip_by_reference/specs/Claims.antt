@@ -16,4 +16,4 @@ pub record ThinCall (len : ℕ) (kind : SaveType) (part : Part) (dirty : Bool)
       ≡ plainCall len kind part dirty chip m v
   -- "A no returns the number, the record as given, all buffers unchanged"
   pub refusedLeaves : (n : ℕ) → n ≢ 0 → plainCall len kind part dirty chip m v .0 .refusal ≡ n
-      → apart (plainCall len kind part dirty chip m v) ≡ (record { refusal = n; dirty = dirty }, chip, m)
+      → apart (plainCall len kind part dirty chip m v) ≡ (record { refusal = n; changed = 0; dirty = dirty }, chip, m)

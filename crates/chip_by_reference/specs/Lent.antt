@@ -23,8 +23,11 @@ plainCall len kind part dirty chip m v =
 
 -- a reply and a memory, with the chip record apart
 abbrev pub apart : Reply × List ℕ → LentReply × ChipRecord × List ℕ
-apart p = (record { refusal = p .0 .refusal; dirty = p .0 .cart .dirty }, p .0 .cart .chip, p .1)
+apart p =
+    let r : LentReply = record { refusal = p .0 .refusal; changed = p .0 .changed; dirty = p .0 .cart .dirty } in
+    (r, p .0 .cart .chip, p .1)
 
 -- and together again; the plain call's value is 0
 abbrev pub together : ℕ → SaveType → Part → LentReply × ChipRecord × List ℕ → Reply × List ℕ
-together len kind part p = (reply (p .0 .refusal) 0 (cartFrom len kind part (p .0 .dirty) (p .1)), p .2)
+together len kind part p =
+    (reply (p .0 .refusal) 0 (p .0 .changed) (cartFrom len kind part (p .0 .dirty) (p .1)), p .2)

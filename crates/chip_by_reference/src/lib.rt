@@ -7,9 +7,10 @@ use part::Part;
 ghost use mathlib.Core.Path.{_≡_};
 ghost use Rattle.chip_by_reference.specs.Lent.{plainCall, apart};
 
-// The number of a refusal or 0, and the changed flag after the call.
+// The number of a refusal or 0, how many bytes of the memory changed, and the changed flag after the call.
 pub struct LentReply {
     pub refusal: u8,
+    pub changed: u32,
     pub dirty: bool,
 }
 
@@ -45,6 +46,7 @@ pub fn eeprom_write_chip(
         chip: next,
         reply: LentReply {
             refusal: plain.refusal,
+            changed: plain.changed,
             dirty: after.dirty,
         },
     }

@@ -8,7 +8,8 @@ ghost use mathlib.Core.Path.{_≡_};
 ghost use mathlib.Core.List.{[]};
 ghost use lib.ListN.{length};
 ghost use Rattle.kind.specs.Kind.{memorySize};
-ghost use Rattle.cart.specs.Calls.{largeAfter, loadSave, saveData, load as load·spec, step};
+ghost use Rattle.cart.specs.Record.{counted};
+ghost use Rattle.cart.specs.Calls.{largeAfter, loadSave, saveData, accepted, step};
 ghost use Rattle.cart.specs.Replies.{state, replied, exportReplied};
 ghost use Rattle.file_calls.specs.Files.{eepromLength, fileLength};
 
@@ -26,19 +27,22 @@ pub fn large_after(kind: SaveType, large: bool, n: usize) -> bool
 }
 
 // An accepted `load_save`.
-fn load(cart: Cartridge, memory: &mut [u8], file: &[u8]) -> Cartridge
+fn load(cart: Cartridge, memory: &mut [u8], file: &[u8]) -> Reply
     requires { ⌜ length (now memory) ≡ memorySize (cart .kind) ⌝ }
-    ensures { λ r. ⌜ state r (now (memory .exit))
-        ≡ load·spec (state cart (now (memory .entry))) (now (file .entry)) ⌝ }
+    ensures { λ r. ⌜ (let s = state cart (now (memory .entry)) in
+        (r, now (memory .exit)) ≡ replied (counted s (accepted (loadSave (now (file .entry))) [] s))) ⌝ }
 {
     let kind = cart.kind;
     let chip = cart.chip;
     let e = chip.eeprom;
-    memory::apply(Store::File, file, memory);
-    cart::with_eeprom(
-        cart,
-        cart.dirty,
-        eeprom::told(e.width, large_after(kind, e.large, file.len()), e),
+    let changed = memory::apply(Store::File, file, memory);
+    cart::stored(
+        changed,
+        cart::with_eeprom(
+            cart,
+            cart.dirty,
+            eeprom::told(e.width, large_after(kind, e.large, file.len()), e),
+        ),
     )
 }
 
@@ -50,7 +54,7 @@ pub fn load_save(cart: Cartridge, memory: &mut [u8], file: &[u8]) -> Reply
     if refusal != 0 {
         return cart::refuse(refusal, cart);
     }
-    cart::done(0, load(cart, memory, file))
+    load(cart, memory, file)
 }
 
 fn eeprom_length(large: bool) -> usize

@@ -54,11 +54,11 @@ sound-way {f} s byte = idle (f .bank) (f .id) (s .bankOk)
 sound-way {f} s sector = idle (f .bank) (f .id) (s .bankOk)
 sound-way {f} s chip = idle (f .bank) (f .id) (s .bankOk)
 
--- what is stored lies within a chip of k sectors
-pub fits-way : {f : Flash} {p v : ℕ} {t : FlashStep} (n k : ℕ) → n ≡ k * 4096 → p < n → Way f p v t → Fits (t .store) n
-fits-way n k e h (state s a) = tt
-fits-way n k e h (id on) = tt
-fits-way n k e h bank = tt
-fits-way n k e h byte = h
-fits-way n k e h sector = omega arith
-fits-way n k e h chip = tt
+-- what is stored lies within a chip of k sectors, at most 32
+pub fits-way : {f : Flash} {p v : ℕ} {t : FlashStep} (n k : ℕ) → n ≡ k * 4096 → k ≤ 32 → p < n → Way f p v t → Fits (t .store) n
+fits-way n k e g h (state s a) = tt
+fits-way n k e g h (id on) = tt
+fits-way n k e g h bank = tt
+fits-way n k e g h byte = h
+fits-way n k e g h sector = omega arith
+fits-way n k e g h chip = omega arith

@@ -1,7 +1,8 @@
--- The save memory: erased bytes, and what each store leaves.
-use mathlib.Core.Bool.{Bool, true, false, _||_}
-use mathlib.Core.List.{List, [], _++_}
+-- The save memory: erased bytes, what each store leaves, and how many places it changes.
+use mathlib.Core.Bool.{Bool, true, false, cond, _||_}
+use mathlib.Core.List.{List, [], _∷_, _++_}
 use Prim.Native.Nat.{ℕ, _+_, _*_, _-_, _/_, _≤_, _<_}
+use lib.Dec.{eqb}
 use lib.ListN.{length, take, set, replicate}
 use Rattle.lists.specs.Lists.{digits, withPart}
 use Rattle.memory.specs.declared.Store.{Store}
@@ -25,14 +26,36 @@ stored (Sector a) file m = withPart m (a / 4096 * 4096) (erased 4096)
 stored Chip file m = erased (length m)
 stored File file m = filled (length m) file
 
+-- 02, ticket 2: "the number of memory places whose value differs from before"
+abbrev pub differs : ℕ → ℕ → ℕ
+differs x y = cond (eqb x y) 0 1
+
+unfoldable pub differing : List ℕ → List ℕ → ℕ
+differing [] after = 0
+differing (x ∷ before) [] = 0
+differing (x ∷ before) (y ∷ after) = differs x y + differing before after
+
+-- a store's answer, and what it leaves
+abbrev pub withCount : List ℕ → List ℕ → ℕ × List ℕ
+withCount before after = (differing before after, after)
+
 -- what is stored lies within a memory of n bytes
 abbrev pub Fits : Store → ℕ → Type 0
 Fits Nothing n = Unit
 Fits (Byte a v) n = a < n
 Fits (Block k d) n = 8 * k + 8 ≤ n
 Fits (Sector a) n = a / 4096 * 4096 + 4096 ≤ n
-Fits Chip n = Unit
+Fits Chip n = n ≤ 131072
 Fits File n = n ≤ 131072
+
+-- the most places that a store changes in a memory of n bytes
+abbrev pub most : Store → ℕ → ℕ
+most Nothing n = 0
+most (Byte a v) n = 1
+most (Block k d) n = 8
+most (Sector a) n = 4096
+most Chip n = n
+most File n = n
 
 -- "sets the flag": a chip's step that stores; "The flag stays" at a load
 abbrev pub stores : Store → Bool

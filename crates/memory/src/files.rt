@@ -1,10 +1,10 @@
-// A file's bytes into a memory, and a memory's into a file.
-use crate::leaves::erase;
+// Bytes copied into a memory, and out of one into a file.
+use crate::count::differing;
 ghost use mathlib.Core.Path.{_≡_};
 ghost use Prim.Native.Nat.{_≤_};
 ghost use lib.ListN.{length};
 ghost use Rattle.lists.specs.Lists.{into};
-ghost use Rattle.memory.specs.Memory.{filled};
+ghost use Rattle.memory.specs.Memory.{withCount};
 
 // Room for the longest file.
 fn room() -> [u8; 131072]
@@ -25,17 +25,12 @@ pub fn copy_file(s: &mut [u8], output: &[u8])
     lists::copy(s, &held[..n]);
 }
 
-// FFh everywhere, then the file's first bytes; each byte is written once.
-pub fn load(memory: &mut [u8], file: &[u8])
-    requires { ⌜ length (now memory) ≤ 131072 ⌝ }
-    ensures { λ _. ⌜ now (memory .exit) ≡ filled (length (now (memory .entry))) (now (file .entry)) ⌝ }
+// Replaces a part by new bytes and answers how many of its places changed.
+pub fn replace(part: &mut [u8], bytes: &[u8]) -> u32
+    requires { ⌜ (length (now part) ≤ 131072) × (length (now part) ≡ length (now bytes)) ⌝ }
+    ensures { λ r. ⌜ (r, now (part .exit)) ≡ withCount (now (part .entry)) (now (bytes .entry)) ⌝ }
 {
-    let n = memory.len();
-    if n <= file.len() {
-        copy_file(memory, &file[..n]);
-        return;
-    }
-    copy_file(memory, file);
-    let k = file.len();
-    erase(&mut memory[k..]);
+    let n = differing(part, bytes);
+    copy_file(part, bytes);
+    n
 }

@@ -1,5 +1,6 @@
 // The save memory, and every change of it.
 
+mod count;
 mod files;
 mod leaves;
 
@@ -7,7 +8,7 @@ pub use files::copy_file;
 ghost use mathlib.Core.Path.{_≡_};
 ghost use mathlib.Core.Bool.{_||_};
 ghost use lib.ListN.{length};
-ghost use Rattle.memory.specs.Memory.{stored, stores as stores·spec, Fits};
+ghost use Rattle.memory.specs.Memory.{stored, withCount, stores as stores·spec, Fits};
 
 // What a call stores. A chip's step returns one and touches no memory itself.
 pub enum Store {
@@ -27,18 +28,19 @@ pub enum Store {
 // For calls that are passed no file.
 pub const NO_FILE: [u8; 0] = [];
 
-// Every change of a save memory is made here.
-pub fn apply(store: Store, file: &[u8], memory: &mut [u8])
+// Every change of a save memory is made here. Answers how many of its places changed.
+pub fn apply(store: Store, file: &[u8], memory: &mut [u8]) -> u32
     requires { ⌜ Fits store (length (now memory)) ⌝ }
-    ensures { λ _. ⌜ now (memory .exit) ≡ stored store (now (file .entry)) (now (memory .entry)) ⌝ }
+    ensures { λ r. ⌜ (r, now (memory .exit))
+        ≡ withCount (now (memory .entry)) (stored store (now (file .entry)) (now (memory .entry))) ⌝ }
 {
     match store {
-        Store::Nothing => {}
+        Store::Nothing => 0,
         Store::Byte(place, value) => leaves::put_byte(memory, place, value),
         Store::Block(block, word) => leaves::put_block(memory, block, word),
         Store::Sector(place) => leaves::erase_sector(memory, place),
         Store::Chip => leaves::erase(memory),
-        Store::File => files::load(memory, file),
+        Store::File => leaves::load(memory, file),
     }
 }
 

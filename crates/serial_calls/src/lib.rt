@@ -9,9 +9,8 @@ ghost use mathlib.Core.List.{List, []};
 ghost use Prim.Native.Nat.{ℕ};
 ghost use lib.ListN.{length};
 ghost use Rattle.kind.specs.Kind.{memorySize, usesEeprom};
-ghost use Rattle.eeprom.specs.Eeprom.{bitIn};
-ghost use Rattle.cart.specs.Record.{recordAllowed};
-ghost use Rattle.cart.specs.Calls.{eepromBeginDma, eepromWrite, eepromRead, eepromOf, withEeprom, step};
+ghost use Rattle.cart.specs.Record.{recordAllowed, counted};
+ghost use Rattle.cart.specs.Calls.{eepromBeginDma, eepromWrite, eepromRead, accepted, step};
 ghost use Rattle.cart.specs.Replies.{state, replied};
 
 // Takes no memory; the contract holds for any memory.
@@ -33,23 +32,26 @@ pub fn eeprom_begin_dma(cart: Cartridge, words: usize) -> Reply
 }
 
 // An accepted `eeprom_write`.
-fn bit_in(cart: Cartridge, memory: &mut [u8], value: u16) -> Cartridge
+fn bit_in(cart: Cartridge, memory: &mut [u8], value: u16) -> Reply
     requires { ⌜ (recordAllowed cart ≡ true)
         × (usesEeprom (cart .kind) ≡ true)
         × (length (now memory) ≡ memorySize (cart .kind)) ⌝ }
     ensures { λ r. ⌜ (let s = state cart (now (memory .entry)) in
-        state r (now (memory .exit)) ≡ withEeprom s (bitIn (eepromOf s) value)) ⌝ }
+        (r, now (memory .exit)) ≡ replied (counted s (accepted (eepromWrite value) [] s))) ⌝ }
 {
     let chip = cart.chip;
     let e = chip.eeprom;
     let t = eeprom::write_bit(e, (value % 2) as u64);
     let store = t.store;
     let next = t.eeprom;
-    memory::apply(store, &NO_FILE, memory);
-    cart::with_eeprom(
-        cart,
-        memory::flag_after(memory::stores(store), cart.dirty),
-        next,
+    let changed = memory::apply(store, &NO_FILE, memory);
+    cart::stored(
+        changed,
+        cart::with_eeprom(
+            cart,
+            memory::flag_after(memory::stores(store), cart.dirty),
+            next,
+        ),
     )
 }
 
@@ -65,7 +67,7 @@ pub fn eeprom_write(cart: Cartridge, memory: &mut [u8], value: u16) -> Reply
     if !kind::uses_eeprom(kind) {
         return cart::refuse(4, cart);
     }
-    cart::done(0, bit_in(cart, memory, value))
+    bit_in(cart, memory, value)
 }
 
 pub fn eeprom_read(cart: Cartridge, memory: &[u8]) -> Reply

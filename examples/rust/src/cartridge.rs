@@ -7,11 +7,24 @@ use crate::raw::{self, Record, RECORD_FLAG, RECORD_IMAGE_LENGTH, RECORD_KIND, RE
 use crate::{rom_crc, save_size, ChipState, Identity, Kind, Part, Refusal};
 
 /// A cartridge's backup chip: save memory and record. The cartridge owns both, so no call can get the wrong ones.
+///
+/// A method that stores returns how many bytes of the save memory have another value than before. A host with a write-back budget
+/// adds these numbers up, and writes out the file when the sum reaches the budget. The number does not replace the changed flag:
+/// storing the value that is already there returns 0 and sets the flag.
 #[derive(Clone, PartialEq, Eq)]
 pub struct Cartridge {
     record: Record,
     memory: Vec<u8>,
     image_crc: u32,
+}
+
+/// What an import did.
+#[derive(Clone, Copy, Debug, PartialEq, Eq, Hash)]
+pub struct Imported {
+    /// How many of the file's bytes were kept.
+    pub kept: usize,
+    /// How many bytes of the save memory have changed.
+    pub changed: usize,
 }
 
 impl Cartridge {
@@ -65,10 +78,12 @@ impl Cartridge {
         sound(value(|value| unsafe { raw::gbasave_save_read(&self.record, memory, length, address, value) })) as u8
     }
 
-    /// Writes a game's byte at a bus address: SRAM stores it, flash takes it as a step of a command.
-    pub fn save_write(&mut self, address: u32, value: u8) {
+    /// Writes a game's byte at a bus address: SRAM stores it, flash takes it as a step of a command. Returns how many bytes of the
+    /// memory have changed: 1 at most, unless a sector or the whole chip is erased.
+    pub fn save_write(&mut self, address: u32, byte: u8) -> usize {
         let (memory, length) = (self.memory.as_mut_ptr(), self.memory.len());
-        sound(accepted(unsafe { raw::gbasave_save_write(&mut self.record, memory, length, address, value) }));
+        sound(value(|changed| unsafe { raw::gbasave_save_write(&mut self.record, memory, length, address, byte, changed) }))
+            as usize
     }
 
     /// Returns whether the game's halfwords in the EEPROM's window are for this cartridge.
@@ -86,10 +101,13 @@ impl Cartridge {
         accepted(unsafe { raw::gbasave_eeprom_begin_dma(&mut self.record, words) })
     }
 
-    /// Takes bit 0 of a halfword. Refused: [`Refusal::NoEeprom`].
-    pub fn eeprom_write(&mut self, value: u16) -> Result<(), Refusal> {
+    /// Takes bit 0 of a halfword. Returns how many bytes of the memory have changed: 8 at most with the last bit of a block, and 0
+    /// with every other bit. Refused: [`Refusal::NoEeprom`].
+    pub fn eeprom_write(&mut self, halfword: u16) -> Result<usize, Refusal> {
         let (memory, length) = (self.memory.as_mut_ptr(), self.memory.len());
-        accepted(unsafe { raw::gbasave_eeprom_write(&mut self.record, memory, length, value) })
+        let changed =
+            value(|changed| unsafe { raw::gbasave_eeprom_write(&mut self.record, memory, length, halfword, changed) })?;
+        Ok(changed as usize)
     }
 
     /// Returns one bit, as a halfword.
@@ -107,24 +125,29 @@ impl Cartridge {
         (length > 0).then_some(file)
     }
 
-    /// Imports a player's file and returns how many bytes of it were kept. A footer of 16 bytes is not kept; a caller that wants
-    /// it in later files appends it to them. Refused: [`Refusal::FileLength`].
-    pub fn import_save(&mut self, file: &[u8]) -> Result<usize, Refusal> {
+    /// Imports a player's file. Returns how many bytes of it were kept, and how many bytes of the memory have changed. A footer of
+    /// 16 bytes is not kept; a caller that wants it in later files appends it to them. Refused: [`Refusal::FileLength`].
+    pub fn import_save(&mut self, file: &[u8]) -> Result<Imported, Refusal> {
         let (memory, length) = (self.memory.as_mut_ptr(), self.memory.len());
+        let mut changed = 0;
         let kept = value(|kept| unsafe {
-            raw::gbasave_import_save(&mut self.record, memory, length, file.as_ptr(), file.len(), kept)
+            raw::gbasave_import_save(&mut self.record, memory, length, file.as_ptr(), file.len(), kept, &mut changed)
         })?;
-        Ok(kept as usize)
+        Ok(Imported { kept: kept as usize, changed: changed as usize })
     }
 
-    /// Erases the memory and loads a file of any length. Bytes for which there is no room are ignored.
-    pub fn load_save(&mut self, file: &[u8]) {
+    /// Erases the memory and loads a file of any length. Bytes for which there is no room are ignored. Returns how many bytes of
+    /// the memory have changed: 0 if it holds the same bytes as before.
+    pub fn load_save(&mut self, file: &[u8]) -> usize {
         let (memory, length) = (self.memory.as_mut_ptr(), self.memory.len());
-        sound(accepted(unsafe { raw::gbasave_load_save(&mut self.record, memory, length, file.as_ptr(), file.len()) }));
+        sound(value(|changed| unsafe {
+            raw::gbasave_load_save(&mut self.record, memory, length, file.as_ptr(), file.len(), changed)
+        })) as usize
     }
 
-    /// Returns the changed flag and clears it: whether a write has stored anything, or a state with a file was resumed, since
-    /// the last call. If so, write out the file. Byte writes to an EEPROM kind, loads and imports do not set the flag.
+    /// Returns the changed flag and clears it: whether a write has stored anything, even what was there already, or a state with a
+    /// file was resumed, since the last call. If so, write out the file. Byte writes to an EEPROM kind, loads and imports do not
+    /// set the flag.
     pub fn take_save_dirty(&mut self) -> bool {
         sound(value(|flag| unsafe { raw::gbasave_take_save_dirty(&mut self.record, flag) })) == 1
     }

@@ -27,6 +27,25 @@
 //! # Ok::<(), Box<dyn std::error::Error>>(())
 //! ```
 //!
+//! A method that stores returns how many bytes have changed. A host that is to write to its card seldom adds them up:
+//!
+//! ```
+//! # use gbasave::Cartridge;
+//! # let mut image = vec![0; 1024];
+//! # image[512..518].copy_from_slice(b"SRAM_V");
+//! # let mut cart = Cartridge::open(&image)?;
+//! const BUDGET: usize = 4096;
+//! let mut unwritten = 0;
+//! unwritten += cart.save_write(0x0E00_0010, 0x5A);
+//! unwritten += cart.save_write(0x0E00_0010, 0x5A); // the same byte again
+//! assert_eq!(unwritten, 1);
+//! if unwritten >= BUDGET && cart.take_save_dirty() {
+//!     // Write out the file.
+//!     unwritten = 0;
+//! }
+//! # Ok::<(), gbasave::Refusal>(())
+//! ```
+//!
 //! Some games save only on one maker's flash chip. Such a game gets its [`Part`]:
 //!
 //! ```
@@ -58,7 +77,7 @@ mod refusal;
 mod state;
 mod version;
 
-pub use cartridge::Cartridge;
+pub use cartridge::{Cartridge, Imported};
 pub use crc::Crc;
 pub use image::{detect_save_type, header_checksum, read, read16, read32, rom_crc, save_fit, save_size, title};
 pub use kind::Kind;

@@ -52,11 +52,24 @@ extern "C" {
         memory_length: usize,
     ) -> u32;
     pub fn gbasave_save_read(record: &Record, memory: *const u8, memory_length: usize, address: u32, value: &mut u32) -> u32;
-    pub fn gbasave_save_write(record: &mut Record, memory: *mut u8, memory_length: usize, address: u32, value: u8) -> u32;
+    pub fn gbasave_save_write(
+        record: &mut Record,
+        memory: *mut u8,
+        memory_length: usize,
+        address: u32,
+        value: u8,
+        changed: &mut u32,
+    ) -> u32;
     pub fn gbasave_uses_eeprom(record: &Record, answer: &mut u32) -> u32;
     pub fn gbasave_eeprom_window_start(record: &Record, start: &mut u32) -> u32;
     pub fn gbasave_eeprom_begin_dma(record: &mut Record, words: u32) -> u32;
-    pub fn gbasave_eeprom_write(record: &mut Record, memory: *mut u8, memory_length: usize, value: u16) -> u32;
+    pub fn gbasave_eeprom_write(
+        record: &mut Record,
+        memory: *mut u8,
+        memory_length: usize,
+        value: u16,
+        changed: &mut u32,
+    ) -> u32;
     pub fn gbasave_eeprom_read(record: &mut Record, memory: *const u8, memory_length: usize, bit: &mut u32) -> u32;
     pub fn gbasave_save_data(
         record: &Record,
@@ -73,6 +86,7 @@ extern "C" {
         file: *const u8,
         file_length: usize,
         kept: &mut u32,
+        changed: &mut u32,
     ) -> u32;
     pub fn gbasave_load_save(
         record: &mut Record,
@@ -80,6 +94,7 @@ extern "C" {
         memory_length: usize,
         file: *const u8,
         file_length: usize,
+        changed: &mut u32,
     ) -> u32;
     pub fn gbasave_take_save_dirty(record: &mut Record, flag: &mut u32) -> u32;
     pub fn gbasave_chip_state(record: &Record, state: &mut [u8; STATE_SIZE]) -> u32;

@@ -50,9 +50,9 @@ impl Cartridge {
     }
 
     /// Resumes a state in this cartridge, whatever was played on it. The cartridge has to be opened with the state's part. If the
-    /// state has a file, it then counts as changed: the next [`take_save_dirty`](Self::take_save_dirty) returns true. An error
-    /// leaves the cartridge as it was.
-    pub fn resume(&mut self, state: &State) -> Result<(), NotResumed> {
+    /// state has a file, it then counts as changed: the next [`take_save_dirty`](Self::take_save_dirty) returns true. Returns how
+    /// many bytes of the memory have changed. An error leaves the cartridge as it was.
+    pub fn resume(&mut self, state: &State) -> Result<usize, NotResumed> {
         let cartridge = self.identity();
         if state.cartridge != cartridge {
             let other_part = Identity { part: cartridge.part, ..state.cartridge } == cartridge;
@@ -60,11 +60,13 @@ impl Cartridge {
         }
         // Before the load, so that a refused state changes nothing; after it, since the load may have made the chip large.
         self.restore_chip_state(&state.chip)?;
+        let mut changed = 0;
         if let Some(file) = &state.file {
-            self.load_save(file);
+            changed = self.load_save(file);
             self.set_save_dirty();
         }
-        Ok(self.restore_chip_state(&state.chip)?)
+        self.restore_chip_state(&state.chip)?;
+        Ok(changed)
     }
 }
 

@@ -1,7 +1,7 @@
 //! Time per image, file and erase.
 
 use super::placed::at_lines;
-use super::{answered, is_wanted, long_row, row, used};
+use super::{answered, is_wanted, long_row, row, stored, used};
 use crate::part::Part;
 use crate::part_image;
 use compare::files::file;
@@ -76,7 +76,8 @@ impl<T> Turns<T> {
     }
 }
 
-/// Files of every length that an export has. Each is loaded once in front of its rows, so that both sides export it whole.
+/// Files of every length that an export has. Each is loaded once in front of its rows, so that both sides export it whole, and a load finds what it
+/// brings. Other bytes are those of two files in turn, which differ in every place. The original has no import: it loads the bytes that are kept.
 fn files() {
     for (name, kind, length) in [
         ("Sram", kind::SRAM, 32_768),
@@ -86,7 +87,7 @@ fn files() {
         ("Eeprom512", kind::EEPROM512, 8_192),
     ] {
         let image = of_kind(kind);
-        let file = file(length, 3);
+        let [file, other] = [3, 4].map(|seed| file(length, seed));
         let (mut carts, mut parts) = (Turns::new(), Turns::new());
         for _ in 0..Turns::<Part>::CARTRIDGES {
             let mut cart = at_lines(|| original::open(&image)).expect("an image of an allowed length");
@@ -102,7 +103,7 @@ fn files() {
             &format!("load, {name}, {length} bytes"),
             Turns::<Part>::CALLS,
             || carts.each(|cart| original::load_save(cart, black_box(&file))),
-            || parts.each(|part| used(answered(part.load_save(black_box(&file))))),
+            || parts.each(|part| used(stored(part.load_save(black_box(&file))))),
         );
         row(
             &format!("export, {name}, {length} bytes"),
@@ -110,20 +111,53 @@ fn files() {
             || carts.each(|cart| used(original::save_data(cart))),
             || parts.each(|part| used(part.save_file(black_box(file.len())))),
         );
+        let in_turn = || [&other, &file].into_iter().cycle();
+        let (mut to_carts, mut to_parts) = (in_turn(), in_turn());
+        row(
+            &format!("load, {name}, {length} bytes, other bytes"),
+            Turns::<Part>::CALLS,
+            || carts.each(|cart| original::load_save(cart, black_box(to_carts.next().expect("a file")))),
+            || parts.each(|part| used(stored(part.load_save(black_box(to_parts.next().expect("a file")))))),
+        );
+        row(
+            &format!("import, {name}, {length} bytes, other bytes"),
+            Turns::<Part>::CALLS,
+            || carts.each(|cart| original::load_save(cart, black_box(to_carts.next().expect("a file")))),
+            || parts.each(|part| used(stored(part.import_save(black_box(to_parts.next().expect("a file")))))),
+        );
     }
 }
 
+/// Of what is blank already, and of what is not: a byte is programmed in the sector, or a file is loaded.
 fn erases() {
-    for (name, last) in [("sector erase, Flash128", 0x30), ("chip erase, Flash128", 0x10)] {
+    const PROGRAM: [u8; 4] = [0xAA, 0x55, 0xA0, 0x12];
+    const SECTOR: [u8; 6] = [0xAA, 0x55, 0x80, 0xAA, 0x55, 0x30];
+    const CHIP: [u8; 6] = [0xAA, 0x55, 0x80, 0xAA, 0x55, 0x10];
+    let file = file(0x2_0000, 3);
+    for (name, loaded, values) in [
+        ("sector erase, Flash128", false, SECTOR.to_vec()),
+        ("program and sector erase, Flash128", false, [&PROGRAM[..], &SECTOR].concat()),
+        ("chip erase, Flash128", false, CHIP.to_vec()),
+        ("load and chip erase, Flash128", true, CHIP.to_vec()),
+    ] {
         let image = of_kind(kind::FLASH128);
         let mut cart = original::open(&image).expect("an image of an allowed length");
         let (_, mut part) = Part::open(&image, MEMORY[usize::from(kind::FLASH128)]);
-        let command = [0xAA, 0x55, 0x80, 0xAA, 0x55, last];
         row(
             name,
             1,
-            || command.iter().for_each(|value| original::save_write(&mut cart, 0x5555, *value)),
-            || command.iter().for_each(|value| used(answered(part.save_write(0x5555, *value)))),
+            || {
+                if loaded {
+                    original::load_save(&mut cart, black_box(&file));
+                }
+                values.iter().for_each(|value| original::save_write(&mut cart, 0x5555, *value));
+            },
+            || {
+                if loaded {
+                    used(stored(part.load_save(black_box(&file))));
+                }
+                values.iter().for_each(|value| used(stored(part.save_write(0x5555, *value))));
+            },
         );
     }
 }

@@ -1,6 +1,6 @@
 //! Time per call.
 
-use super::{answered, calls, row, used, values, BATCH};
+use super::{answered, calls, row, stored, used, values, BATCH};
 use crate::abi::{MACRONIX_128K, USUAL_PART};
 use crate::part::Part;
 use crate::part_image;
@@ -10,13 +10,14 @@ use compare::commands::{set_address, write_block};
 use compare::images::{image, of_kind};
 use compare::kind::{self, Kind, MEMORY};
 use compare::original::{self, Cartridge};
-use compare::records::{serial, with_block, Chip};
+use compare::records::{serial, with_acc, with_block, Chip};
 use std::hint::black_box;
 
 pub fn rows() {
     reads();
     writes();
     bits();
+    blocks();
     states();
     images();
 }
@@ -26,7 +27,7 @@ fn open(kind: Kind, chip: Chip) -> (Cartridge, Part) {
     open_with(kind, USUAL_PART, chip)
 }
 
-/// The same with a flash part. The original, and a part of before there were flash parts, has the usual one whatever is given.
+/// The same with a flash part. The original has the usual one whatever is given.
 fn open_with(kind: Kind, flash_part: u32, chip: Chip) -> (Cartridge, Part) {
     let image = of_kind(kind);
     let mut cart = original::open(&image).expect("an image of an allowed length");
@@ -55,17 +56,22 @@ fn reads() {
     }
 }
 
+/// Byte writes at one place. Where a row does not say other byte, a byte that is stored is the one that is there.
 fn writes() {
     const PROGRAM: &[u8] = &[0xAA, 0x55, 0xA0, 0x12];
+    const PROGRAM_OTHER: &[u8] = &[0xAA, 0x55, 0xA0, 0x12, 0xAA, 0x55, 0xA0, 0x34];
     for (name, kind, flash_part, command) in [
         ("byte write, None", kind::NONE, USUAL_PART, &[0x12][..]),
         ("byte write, Sram", kind::SRAM, USUAL_PART, &[0x12]),
+        ("byte write, Sram, other byte", kind::SRAM, USUAL_PART, &[0x12, 0x34]),
         ("byte write, Eeprom512", kind::EEPROM512, USUAL_PART, &[0x12]),
+        ("byte write, Eeprom512, other byte", kind::EEPROM512, USUAL_PART, &[0x12, 0x34]),
         ("byte write, flash state 0", kind::FLASH128, USUAL_PART, &[0x12]),
         ("byte write, flash state 0, Macronix", kind::FLASH128, MACRONIX_128K, &[0x12]),
         ("byte write, flash states 0 1", kind::FLASH128, USUAL_PART, &[0xAA, 0x12]),
         ("byte write, flash states 0 1 2 (ID mode off)", kind::FLASH128, USUAL_PART, &[0xAA, 0x55, 0xF0]),
         ("byte write, flash states 0 1 2 4 (program)", kind::FLASH128, USUAL_PART, PROGRAM),
+        ("byte write, flash states 0 1 2 4 (program), other byte", kind::FLASH128, USUAL_PART, PROGRAM_OTHER),
         ("byte write, flash states 0 1 2 4 (program), Macronix", kind::FLASH128, MACRONIX_128K, PROGRAM),
         ("byte write, flash states 0 1 2 5 (bank)", kind::FLASH128, USUAL_PART, &[0xAA, 0x55, 0xB0, 0x01]),
         ("byte write, flash states 0 1 2 6 7", kind::FLASH128, USUAL_PART, &[0xAA, 0x55, 0x80, 0xAA, 0x12]),
@@ -77,10 +83,12 @@ fn writes() {
             name,
             &commands,
             |value| original::save_write(&mut cart, 0x5555, value),
-            |value| used(answered(part.save_write(0x5555, value))),
+            |value| used(stored(part.save_write(0x5555, value))),
         );
     }
 }
+
+const DATA: u64 = 0x0123_4567_89AB_CDEF;
 
 /// The bits of a command, many times over, without its DMA length.
 fn stream(command: Vec<Call>) -> Vec<u16> {
@@ -102,7 +110,8 @@ fn bits() {
         );
     }
     for (name, command) in [
-        ("serial bit in, writes of 81 bits", write_block(14, 100, 0x0123_4567_89AB_CDEF)),
+        ("serial bit in, writes of 81 bits", write_block(14, 100, DATA)),
+        ("serial bit in, writes of 81 bits, other data", [DATA, !DATA].map(|data| write_block(14, 100, data)).concat()),
         ("serial bit in, addresses of 17 bits", set_address(14, 100)),
     ] {
         let (mut cart, mut part) = open(kind::EEPROM512, idle);
@@ -110,7 +119,7 @@ fn bits() {
             name,
             &stream(command),
             |bit| original::eeprom_write(&mut cart, bit),
-            |bit| used(answered(part.eeprom_write(bit))),
+            |bit| used(stored(part.eeprom_write(bit))),
         );
     }
     let reading = with_block(serial(14, 1, 6, 0), 100);
@@ -129,6 +138,27 @@ fn bits() {
     );
     let (mut cart, mut part) = open(kind::EEPROM512, idle);
     calls("serial bit out, idle", |_| used(original::eeprom_read(&mut cart)), |_| used(answered(part.eeprom_read())));
+}
+
+/// The bit that stores a block, after a restore that puts the chip in front of it; the data of the last time, or other data.
+fn blocks() {
+    let before_last = |data| with_acc(with_block(serial(14, 1, 3, 63), 100), data >> 1);
+    for (name, data) in [("same data", [DATA, DATA]), ("other data", [DATA, !DATA])] {
+        let (mut cart, mut part) = open(kind::EEPROM512, before_last(DATA));
+        let bits = data.map(|data| (before_last(data), (data & 1) as u16)).repeat(BATCH as usize / 16);
+        values(
+            &format!("restore and the bit that stores a block, {name}"),
+            &bits,
+            |(chip, bit)| {
+                used(original::restore(&mut cart, &chip));
+                original::eeprom_write(&mut cart, bit);
+            },
+            |(chip, bit)| {
+                used(answered(part.restore(&chip)));
+                used(stored(part.eeprom_write(bit)));
+            },
+        );
+    }
 }
 
 fn states() {

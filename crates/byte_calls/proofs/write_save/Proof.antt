@@ -4,7 +4,8 @@ use lib.ListN.{length}
 use Rattle.memory.specs.Memory.{Fits}
 use Rattle.byte_step.specs.declared.ByteStep.{ByteStep}
 use Rattle.byte_step.proofs.Fits.{step-fits}
-use Rattle.cart.specs.Calls.{writeSave}
+use Rattle.memory.proofs.Counts.{count-is, memory-is}
+use Rattle.cart.specs.Calls.{accepted, writeSave}
 use borrow.Author.Needs.{needs}
 use Rattle.byte_calls.proofs.write_save.Statement.{statement}
 use Rattle.byte_calls.proofs.write_save.Tie as tie
@@ -18,10 +19,11 @@ apply-requires c κs =
     (step-fits (a .cart .kind) (a .cart .chip .flash) n (a .address) (a .value) (s .pre))
 
 returns : tie.Need-returns
-unfolding writeSave
+unfolding accepted writeSave
 returns c =
+    let stores = c .before .before .before .before .before .apply .ensures in
     rw
-    (c .with-flash .ensures, c .before .flag-after .ensures, c .before .before .before .before .apply .ensures, c .before .before .before .before .before .before .before .before .write-byte .ensures)
+    (c .stored .ensures, c .before .with-flash .ensures, c .before .before .flag-after .ensures, count-is stores, memory-is stores, c .before .before .before .before .before .before .before .before .before .write-byte .ensures)
 
 pub write-save-spec : {M : Type 1} → statement M
 write-save-spec =
@@ -30,6 +32,7 @@ write-save-spec =
     (λ c κs. search needs)
     (λ c. search needs)
     apply-requires
+    (λ c κs. search needs)
     (λ c κs. search needs)
     (λ c κs. search needs)
     (λ c. search needs)

@@ -23,7 +23,7 @@ returns : tie.Need-returns
 returns c =
     let s = c .before .before .before .before .before in
     let e = c .before .memory-size .ensures ∙ ap memorySize (c .before .before .kind-in .ensures) in
-    write-no (s .args .cart .now) (s .args .memory .now) (s .pre) (λ z. c .if1 .taken (z ∙ sym e)) (s .args .address) (s .args .value)
+    write-no (s .args .cart .now) (s .args .memory .now) (s .pre) (λ z. c .if1 .taken (z ∙ sym e)) (s .args .address) (s .args .value) (s .args .changed .now)
 
 apply-requires : tie.Need-apply-requires
 apply-requires c κs =
@@ -45,7 +45,7 @@ returns-2 c =
     let m = s .args .memory .now in
     let k = c .before .before .before .before .before .before .before .before .before .before .before .before .before .before .before .kind-in in
     let t = c .before .before .before .before .before .before .before .before .before .before .write-byte in
-    write-yes r m (s .pre) (c .before .before .before .before .before .before .before .before .before .before .before .before .before .if1 .left ∙ c .before .before .before .before .before .before .before .before .before .before .before .before .before .before .memory-size .ensures ∙ ap memorySize (k .ensures)) (s .args .address) (s .args .value) (t .result)
+    write-yes r m (s .pre) (c .before .before .before .before .before .before .before .before .before .before .before .before .before .if1 .left ∙ c .before .before .before .before .before .before .before .before .before .before .before .before .before .before .memory-size .ensures ∙ ap memorySize (k .ensures)) (s .args .address) (s .args .value) (s .args .changed .now) (t .result)
     (t .ensures ∙ ap₂ (λ (x : SaveType) (f : Flash). writeStep x f (length m) (s .args .address) (s .args .value)) (k .ensures) (c .before .before .before .before .before .before .before .before .before .before .before .flash-in .ensures))
     (c .put-bit .ensures ∙ ap (λ (l : List ℕ). withId l (t .result .flash .id)) (c .before .before .before .before .before .before .before .put-flash .ensures))
     (c .before .before .before .before .apply .ensures)

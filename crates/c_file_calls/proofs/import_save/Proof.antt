@@ -9,7 +9,7 @@ use Rattle.kind.specs.Kind.{memorySize}
 use Rattle.file_sizes.specs.SaveFit.{saveFit, taken, keptPart}
 use Rattle.file_sizes.proofs.Fits.{kept-most}
 use Rattle.cart.specs.Calls.{importSave}
-use Rattle.c_record.specs.AtExit.{valueAt}
+use Rattle.c_record.specs.AtExit.{importAt}
 use Rattle.c_record.proofs.Calls.{no-record}
 use Rattle.c_file_calls.proofs.FileCalls.{import-no, no-fit, import-yes}
 use borrow.Author.Needs.{needs}
@@ -19,7 +19,7 @@ use Rattle.c_file_calls.proofs.import_save.Tie as tie
 returns : tie.Need-returns
 returns c =
     let a = c .before .before .before .before .before .args in
-    ap (valueAt (a .kept .now)) (no-record (importSave (a .file .now)) [] (a .cart .now) (a .memory .now) (denied _ (c .before .is-record .ensures .0) (c .if1 .taken)))
+    ap (importAt (a .kept .now) (a .changed .now)) (no-record (importSave (a .file .now)) [] (a .cart .now) (a .memory .now) (denied _ (c .before .is-record .ensures .0) (c .if1 .taken)))
 
 returns-2 : tie.Need-returns-2
 returns-2 c =
@@ -27,7 +27,7 @@ returns-2 c =
     let a = q .before .before .before .before .before .args in
     let i = q .before .is-record .ensures in
     let e = c .before .memory-size .ensures ∙ ap memorySize (c .before .before .kind-in .ensures) in
-    import-no (a .cart .now) (a .memory .now) (i .1 (granted _ (i .0) (q .if1 .left))) (λ z. c .if2 .taken (z ∙ sym e)) (a .file .now) (a .kept .now)
+    import-no (a .cart .now) (a .memory .now) (i .1 (granted _ (i .0) (q .if1 .left))) (λ z. c .if2 .taken (z ∙ sym e)) (a .file .now) (a .kept .now) (a .changed .now)
 
 returns-3 : tie.Need-returns-3
 returns-3 c =
@@ -38,7 +38,7 @@ returns-3 c =
     let i = q .before .is-record .ensures in
     let k = n .before .before .kind-in .ensures in
     let e = n .if2 .left ∙ n .before .memory-size .ensures ∙ ap memorySize k in
-    no-fit (a .cart .now) (a .memory .now) (i .1 (granted _ (i .0) (q .if1 .left))) e f (a .kept .now)
+    no-fit (a .cart .now) (a .memory .now) (i .1 (granted _ (i .0) (q .if1 .left))) e f (a .kept .now) (a .changed .now)
     (denied _ (c .before .takes .ensures ∙ ap (λ (s : SaveType). taken (saveFit s (length f))) k) (c .if3 .taken))
 
 load-valid-requires : tie.Need-load-valid-requires
@@ -64,7 +64,7 @@ returns-4 c =
     let i = q .before .is-record .ensures in
     let k = n .before .before .kind-in .ensures in
     let e = n .if2 .left ∙ n .before .memory-size .ensures ∙ ap memorySize k in
-    import-yes (a .cart .now) (a .memory .now) (i .1 (granted _ (i .0) (q .if1 .left))) e f _ (a .kept .now)
+    import-yes (a .cart .now) (a .memory .now) (i .1 (granted _ (i .0) (q .if1 .left))) e f _ (a .kept .now) (a .changed .now)
     (granted _ (p .before .before .takes .ensures ∙ ap (λ (s : SaveType). taken (saveFit s (length f))) k) (p .before .if3 .left))
     (p .kept-part .ensures ∙ ap (λ (s : SaveType). keptPart s f) k)
     (c .before .before .load-valid .ensures)

@@ -3,7 +3,7 @@ use mathlib.Core.Path.{sym, subst, ap, _∙_}
 use mathlib.Core.Bool.{Bool}
 use mathlib.Core.List.{[]}
 use lib.ListN.{length}
-use Rattle.memory.specs.Memory.{stored, stores, Fits}
+use Rattle.memory.specs.Memory.{stored, stores, Fits, withCount}
 use Rattle.eeprom.specs.declared.EepromStep.{EepromStep}
 use Rattle.c_record.specs.Fields.{withSerial}
 use borrow.Author.Needs.{needs}
@@ -22,7 +22,7 @@ returns c =
       c .before .before .before .before .before .put-eeprom .ensures
           ∙ ap (λ (b : Bool). withSerial (a .cart .now) b (t .result .eeprom)) (c .before .before .before .before .before .before .stores .ensures)
           ∙ ap (λ (x : EepromStep). withSerial (a .cart .now) (stores (x .store)) (x .eeprom)) (t .ensures),
-      c .before .before .apply .ensures ∙ ap (λ (x : EepromStep). stored (x .store) [] (a .memory .now)) (t .ensures),
+      c .before .before .apply .ensures ∙ ap (λ (x : EepromStep). withCount (a .memory .now) (stored (x .store) [] (a .memory .now))) (t .ensures),
     )
 
 pub turn-in-spec : {M : Type 1} → statement M

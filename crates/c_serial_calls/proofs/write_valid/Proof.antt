@@ -17,12 +17,12 @@ returns : tie.Need-returns
 returns c =
     let s = c .before .before .before .before .before in
     let z = c .before .memory-size .ensures ∙ ap memorySize (c .before .before .kind-in .ensures) in
-    write-3 (s .args .cart .now) (s .args .memory .now) (s .pre) (λ q. c .if1 .taken (q ∙ sym z)) (s .args .value)
+    write-3 (s .args .cart .now) (s .args .memory .now) (s .pre) (λ q. c .if1 .taken (q ∙ sym z)) (s .args .value) (s .args .changed .now)
 
 returns-2 : tie.Need-returns-2
 returns-2 c =
     let s = c .before .before .before .before .before .before .before in
-    write-4 (s .args .cart .now) (s .args .memory .now) (s .pre) (c .before .before .if1 .left ∙ c .before .before .before .memory-size .ensures ∙ ap memorySize (c .before .before .before .before .kind-in .ensures)) (s .args .value)
+    write-4 (s .args .cart .now) (s .args .memory .now) (s .pre) (c .before .before .if1 .left ∙ c .before .before .before .memory-size .ensures ∙ ap memorySize (c .before .before .before .before .kind-in .ensures)) (s .args .value) (s .args .changed .now)
     (denied _ (c .before .uses-eeprom .ensures ∙ ap usesEeprom (c .before .before .before .before .kind-in .ensures)) (c .if2 .taken))
 
 shift-requires : tie.Need-shift-requires
@@ -43,7 +43,7 @@ returns-3 c =
     let s = c .before .before .before .before .before .before .before .before .before .before .before .before .before .before .before .before in
     let g = c .before .before .before .s .given in
     let e = c .before .before .before .before .before .before .before .eeprom-in in
-    write-more (s .args .cart .now) (s .args .memory .now) (s .pre) (c .before .before .before .before .before .before .before .before .before .before .before .if1 .left ∙ c .before .before .before .before .before .before .before .before .before .before .before .before .memory-size .ensures ∙ ap memorySize (c .before .before .before .before .before .before .before .before .before .before .before .before .before .kind-in .ensures)) (s .args .value) (e .result) (c .before .before .before .before .before .before .w .result) (c .before .before .before .before .before .shift .result)
+    write-more (s .args .cart .now) (s .args .memory .now) (s .pre) (c .before .before .before .before .before .before .before .before .before .before .before .if1 .left ∙ c .before .before .before .before .before .before .before .before .before .before .before .before .memory-size .ensures ∙ ap memorySize (c .before .before .before .before .before .before .before .before .before .before .before .before .before .kind-in .ensures)) (s .args .value) (s .args .changed .now) (e .result) (c .before .before .before .before .before .before .w .result) (c .before .before .before .before .before .shift .result)
     (granted _ (c .before .before .before .before .before .before .before .before .before .before .uses-eeprom .ensures ∙ ap usesEeprom (c .before .before .before .before .before .before .before .before .before .before .before .before .before .kind-in .ensures)) (c .before .before .before .before .before .before .before .before .before .if2 .left)) (e .ensures) (c .before .before .before .before .before .before .w .ensures) (c .before .before .before .before .before .shift .ensures) (g .0 .0) (g .0 .1 .0) (g .1) (c .put-shift .ensures)
 
 returns-4 : tie.Need-returns-4
@@ -51,7 +51,7 @@ returns-4 c =
     let s = c .before .before .before .before .before .before .before .before .before .before .before .before .before .before .before .before .before .before .before in
     let g = c .before .before .before .before .before .before .s2 .given in
     let e = c .before .before .before .before .before .before .before .before .before .before .eeprom-in in
-    write-turn (s .args .cart .now) (s .args .memory .now) (s .pre) (c .before .before .before .before .before .before .before .before .before .before .before .before .before .before .if1 .left ∙ c .before .before .before .before .before .before .before .before .before .before .before .before .before .before .before .memory-size .ensures ∙ ap memorySize (c .before .before .before .before .before .before .before .before .before .before .before .before .before .before .before .before .kind-in .ensures)) (s .args .value) (e .result) (c .before .before .before .before .before .before .before .before .before .w .result) (c .before .before .before .before .before .before .before .before .shift .result)
+    write-turn (s .args .cart .now) (s .args .memory .now) (s .pre) (c .before .before .before .before .before .before .before .before .before .before .before .before .before .before .if1 .left ∙ c .before .before .before .before .before .before .before .before .before .before .before .before .before .before .before .memory-size .ensures ∙ ap memorySize (c .before .before .before .before .before .before .before .before .before .before .before .before .before .before .before .before .kind-in .ensures)) (s .args .value) (s .args .changed .now) (e .result) (c .before .before .before .before .before .before .before .before .before .w .result) (c .before .before .before .before .before .before .before .before .shift .result)
     (granted _ (c .before .before .before .before .before .before .before .before .before .before .before .before .before .uses-eeprom .ensures ∙ ap usesEeprom (c .before .before .before .before .before .before .before .before .before .before .before .before .before .before .before .before .kind-in .ensures)) (c .before .before .before .before .before .before .before .before .before .before .before .before .if2 .left)) (e .ensures) (c .before .before .before .before .before .before .before .before .before .w .ensures) (c .before .before .before .before .before .before .before .before .shift .ensures) (g .0 .0) (g .1) (c .before .before .turn-in .ensures .0) (c .before .before .turn-in .ensures .1)
 
 pub write-valid-spec : {M : Type 1} → statement M

@@ -1,7 +1,8 @@
 -- `file_calls::load` meets its contract. Assumes nothing.
 use native.Mathlib.Omega.{arith}
 use Rattle.kind.proofs.Sizes.{memory-small}
-use Rattle.cart.specs.Calls.{load}
+use Rattle.memory.proofs.Counts.{count-is, memory-is}
+use Rattle.cart.specs.Calls.{accepted, load}
 use borrow.Author.Needs.{needs}
 use Rattle.file_calls.proofs.load.Statement.{statement}
 use Rattle.file_calls.proofs.load.Tie as tie
@@ -12,16 +13,18 @@ apply-requires c κs =
     omega (arith, s .pre, memory-small (s .args .cart .kind))
 
 returns : tie.Need-returns
-unfolding load
+unfolding accepted load
 returns c =
+    let stores = c .before .before .before .before .before .before .apply .ensures in
     rw
-    (c .with-eeprom .ensures, c .before .told .ensures, c .before .before .large-after .ensures, c .before .before .before .before .before .apply .ensures)
+    (c .stored .ensures, c .before .with-eeprom .ensures, c .before .before .told .ensures, c .before .before .before .large-after .ensures, count-is stores, memory-is stores)
 
 pub load-spec : {M : Type 1} → statement M
 load-spec =
     tie.close
     (tie.spec
     apply-requires
+    (λ c κs. search needs)
     (λ c κs. search needs)
     (λ c κs. search needs)
     (λ c κs. search needs)

@@ -3,9 +3,8 @@ use mathlib.Core.Path.{sym, ap, _∙_}
 use mathlib.Core.List.{[]}
 use lib.ListN.{length}
 use Rattle.cart.specs.declared.Reply.{Reply}
-use Rattle.cart.specs.Record.{State}
-use Rattle.cart.specs.Calls.{loadSave, questions, accepted}
-use Rattle.cart.specs.Replies.{state, done, replied}
+use Rattle.cart.specs.Calls.{loadSave, questions}
+use Rattle.cart.specs.Replies.{state, replied}
 use Rattle.cart.proofs.Replies.{step-no, step-yes, door-yes}
 use borrow.Author.Needs.{needs}
 use Rattle.file_calls.proofs.load_save.Statement.{statement}
@@ -22,12 +21,11 @@ load-requires : tie.Need-load-requires
 load-requires c κs = let a = c .before .before .before .before .before .args in door-yes (a .cart) (length (a .memory .now)) (c .before .before .door .result) (c .before .before .door .ensures) (c .before .if1 .left) .1
 
 returns-2 : tie.Need-returns-2
-unfolding questions accepted
+unfolding questions
 returns-2 c =
-    let a = c .before .before .before .before .before .before .before .before .before .args in
-    let w = c .before .before .before .load in
-    ap (λ (r : Reply). (r, w .last .1 .0)) (c .done .ensures) ∙ ap (λ (s : State). (done 0 (s .cart), s .memory)) (w .ensures)
-    ∙ ap replied (sym (step-yes (loadSave (a .file .now)) [] (state (a .cart) (a .memory .now)) (c .before .before .before .before .before .before .door .result) (c .before .before .before .before .before .before .door .ensures) (c .before .before .before .before .before .if1 .left)))
+    let a = c .before .before .before .before .before .before .before .before .args in
+    c .before .before .load .ensures
+    ∙ ap replied (sym (step-yes (loadSave (a .file .now)) [] (state (a .cart) (a .memory .now)) (c .before .before .before .before .before .door .result) (c .before .before .before .before .before .door .ensures) (c .before .before .before .before .if1 .left)))
 
 pub load-save-spec : {M : Type 1} → statement M
 load-save-spec =
@@ -37,6 +35,5 @@ load-save-spec =
     (λ c κs. search needs)
     returns
     load-requires
-    (λ c κs. search needs)
     (λ c. search needs)
     returns-2)

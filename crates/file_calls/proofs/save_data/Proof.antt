@@ -4,6 +4,7 @@ use mathlib.Core.List.{List, [], _∷_}
 use Prim.Native.Nat.{ℕ}
 use native.Mathlib.Omega.{arith}
 use lib.ListN.{length, take}
+use Rattle.cart.specs.Counts.{storeOf}
 use Rattle.cart.specs.declared.Reply.{Reply}
 use Rattle.lists.specs.Questions.{_else_}
 use lib.Seq.{length-take-le}
@@ -11,7 +12,7 @@ use borrow.Author.Tests.{le-leb, lt-leb}
 use Rattle.lists.specs.Lists.{into}
 use Rattle.cart.specs.Calls.{saveData, fileOf, holds, questions, accepted}
 use Rattle.cart.specs.Replies.{state, done, exportReplied}
-use Rattle.cart.proofs.Replies.{step-no, step-yes, door-no, door-yes, door-more}
+use Rattle.cart.proofs.Replies.{step-no, step-kept, door-no, door-yes, door-more}
 use Rattle.file_calls.proofs.Exports.{length-fits, length-small, holds-is, exported-is}
 use borrow.Author.Needs.{needs}
 use Rattle.file_calls.proofs.save_data.Statement.{statement}
@@ -55,7 +56,7 @@ cast-done : tie.Need-cast-done
 cast-done c = let a = c .before .before .before .before .before .before .before .before .before .before .before .before .before .args in omega (arith, c .before .before .before .before .before .before .file-length .ensures, length-small (a .cart .kind) (a .cart .chip .eeprom .large))
 
 returns-3 : tie.Need-returns-3
-unfolding questions accepted
+unfolding questions accepted storeOf
 returns-3 c =
     let a = c .before .before .before .before .before .before .before .before .before .before .before .before .before .before .args in
     let d = c .before .before .before .before .before .before .before .before .before .before .before .door in
@@ -66,7 +67,7 @@ returns-3 c =
     ap₂ (λ (r : Reply) (l : List ℕ). (r, l)) (c .done .ensures) (c .before .before .before .copy-file .ensures)
     ∙ ap (λ (n : ℕ). (done n (a .cart), into (take n (a .memory .now)) (a .destination .now))) (c .before .before .before .before .before .before .before .file-length .ensures)
     ∙ sym (exported-is s (a .destination .now) (a .cart .kind) (y .1))
-    ∙ ap exportReplied (sym (step-yes saveData (a .destination .now) s 0 (sym (e ∙ rw (h, ← c .before .before .before .before .before .before .before .file-length .ensures, le-leb _ _ (c .before .before .before .before .before .before .if2 .left)))) refl))
+    ∙ ap exportReplied (sym (step-kept saveData (a .destination .now) s 0 (sym (e ∙ rw (h, ← c .before .before .before .before .before .before .before .file-length .ensures, le-leb _ _ (c .before .before .before .before .before .before .if2 .left)))) refl refl))
 
 pub save-data-spec : {M : Type 1} → statement M
 save-data-spec =

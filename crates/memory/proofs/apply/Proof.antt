@@ -1,10 +1,12 @@
 -- `memory::apply` meets its contract, case by case. Assumes nothing.
 use mathlib.Core.Path.{ap, sym, _∙_}
+use Prim.Native.Nat.{ℕ}
 use lib.ListN.{length}
 use Rattle.memory.specs.declared.Store.{Store}
-use Rattle.memory.specs.declared.Store.the-variants.{Byte, Block, Sector, File}
-use Rattle.memory.specs.Memory.{stored}
+use Rattle.memory.specs.declared.Store.the-variants.{Byte, Block, Sector, Chip, File}
+use Rattle.memory.specs.Memory.{stored, withCount}
 use Rattle.memory.proofs.Memory.{fits-case}
+use Rattle.memory.proofs.Counts.{differing-same}
 use borrow.Author.Needs.{needs}
 use Rattle.memory.proofs.apply.Statement.{statement}
 use Rattle.memory.proofs.apply.Tie as tie
@@ -27,6 +29,11 @@ erase-sector-requires c κs =
     let g = c .before .before .store3 .given in
     fits-case (s .args .store) (Sector (g .0 .0)) (length (s .args .memory .now)) (g .1) (s .pre)
 
+erase-requires : tie.Need-erase-requires
+erase-requires c κs =
+    let s = c .before .before .before .before .before in
+    fits-case (s .args .store) Chip (length (s .args .memory .now)) (c .before .enum-told2 .given .1) (s .pre)
+
 load-requires : tie.Need-load-requires
 load-requires c κs =
     let s = c .before .before .before .before .before in
@@ -34,25 +41,27 @@ load-requires c κs =
 
 returns : tie.Need-returns
 unfolding stored
-returns c = rw (c .enum-told .given .1)
+returns c =
+    let m = c .before .before .before .before .args .memory .now in
+    rw (c .enum-told .given .1) (ap (λ (n : ℕ). (n, m)) (sym (differing-same m)))
 
 returns-2 : tie.Need-returns-2
 unfolding stored
 returns-2 c =
     let a = c .before .before .before .before .before .before .before .before .before .args in
-    c .before .before .put-byte .ensures ∙ ap (λ (s : Store). stored s (a .file .now) (a .memory .now)) (sym (c .before .before .before .before .before .store .given .1))
+    c .before .before .put-byte .ensures ∙ ap (λ (s : Store). withCount (a .memory .now) (stored s (a .file .now) (a .memory .now))) (sym (c .before .before .before .before .before .store .given .1))
 
 returns-3 : tie.Need-returns-3
 unfolding stored
 returns-3 c =
     let a = c .before .before .before .before .before .before .before .before .before .args in
-    c .before .before .put-block .ensures ∙ ap (λ (s : Store). stored s (a .file .now) (a .memory .now)) (sym (c .before .before .before .before .before .store2 .given .1))
+    c .before .before .put-block .ensures ∙ ap (λ (s : Store). withCount (a .memory .now) (stored s (a .file .now) (a .memory .now))) (sym (c .before .before .before .before .before .store2 .given .1))
 
 returns-4 : tie.Need-returns-4
 unfolding stored
 returns-4 c =
     let a = c .before .before .before .before .before .before .before .before .before .args in
-    c .before .before .erase-sector .ensures ∙ ap (λ (s : Store). stored s (a .file .now) (a .memory .now)) (sym (c .before .before .before .before .before .store3 .given .1))
+    c .before .before .erase-sector .ensures ∙ ap (λ (s : Store). withCount (a .memory .now) (stored s (a .file .now) (a .memory .now))) (sym (c .before .before .before .before .before .store3 .given .1))
 
 returns-5 : tie.Need-returns-5
 unfolding stored
@@ -74,7 +83,7 @@ apply-spec =
     (λ c. search needs)
     erase-sector-requires
     (λ c. search needs)
-    (λ c κs. search needs)
+    erase-requires
     (λ c. search needs)
     load-requires
     returns

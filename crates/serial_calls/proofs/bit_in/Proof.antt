@@ -4,9 +4,11 @@ use native.Mathlib.Omega.{arith}
 use Prim.Native.Nat.{_%_}
 use lib.ListN.{length}
 use Rattle.memory.specs.Memory.{Fits}
+use Rattle.memory.proofs.Counts.{count-is, memory-is}
 use Rattle.eeprom.specs.declared.EepromStep.{EepromStep}
 use Rattle.eeprom.specs.Eeprom.{bitIn}
 use Rattle.eeprom.proofs.Fits.{write-fits}
+use Rattle.cart.specs.Calls.{accepted}
 use Rattle.cart.proofs.Fields.{allowed-bounds}
 use Rattle.cart.proofs.Sound.{eeprom-size}
 use borrow.Author.Needs.{needs}
@@ -30,11 +32,12 @@ apply-requires c κs =
     (write-fits n (a .cart .chip .eeprom) (a .value % 2) (omega (arith, b .blockOk)))
 
 returns : tie.Need-returns
-unfolding bitIn
+unfolding accepted bitIn
 returns c =
-    let w = c .before .before .before .before .before .before .before .before .before .write-bit in
+    let w = c .before .before .before .before .before .before .before .before .before .before .write-bit in
+    let stores = c .before .before .before .before .before .before .apply .ensures in
     rw
-    (c .with-eeprom .ensures, c .before .flag-after .ensures, c .before .before .stores .ensures, c .before .before .before .before .before .apply .ensures, w .ensures)
+    (c .stored .ensures, c .before .with-eeprom .ensures, c .before .before .flag-after .ensures, c .before .before .before .stores .ensures, count-is stores, memory-is stores, w .ensures)
 
 pub bit-in-spec : {M : Type 1} → statement M
 bit-in-spec =
@@ -44,6 +47,7 @@ bit-in-spec =
     write-bit-requires
     (λ c. search needs)
     apply-requires
+    (λ c κs. search needs)
     (λ c κs. search needs)
     (λ c κs. search needs)
     (λ c κs. search needs)

@@ -1,13 +1,14 @@
 -- `serial_calls::eeprom_read` meets its contract. Assumes nothing.
-use mathlib.Core.Path.{sym, ap, ap₂, _∙_}
+use mathlib.Core.Path.{refl, sym, ap, ap₂, _∙_}
 use mathlib.Core.List.{[]}
 use lib.ListN.{length}
 use Rattle.cart.specs.declared.Reply.{Reply}
 use native.Mathlib.Omega.{arith}
 use Rattle.eeprom.specs.declared.Eeprom.{Eeprom}
 use Rattle.cart.specs.Calls.{eepromRead, questions, accepted}
+use Rattle.cart.specs.Counts.{storeOf}
 use Rattle.cart.specs.Replies.{state, chipRecord, cartWith, done, replied}
-use Rattle.cart.proofs.Replies.{step-no, step-yes, door-yes}
+use Rattle.cart.proofs.Replies.{step-no, step-kept, door-yes}
 use Rattle.cart.proofs.Fields.{allowed-bounds}
 use Rattle.cart.proofs.Sound.{eeprom-size}
 use Rattle.eeprom.specs.Eeprom.{readBit}
@@ -35,14 +36,14 @@ after-read-requires c κs =
     allowed-bounds (a .cart) (door-yes (a .cart) (length (a .memory .now)) (c .before .before .before .before .before .door .result) (c .before .before .before .before .before .door .ensures) (c .before .before .before .before .if1 .left) .0) .placeOk
 
 returns-2 : tie.Need-returns-2
-unfolding questions accepted
+unfolding questions accepted storeOf
 returns-2 c =
     let a = c .before .before .before .before .before .before .before .before .before .before .args in
     let m = a .memory .now in
     let v = c .before .before .before .read-bit .ensures ∙ ap (λ k. readBit k (a .cart .chip .eeprom) m) (c .before .before .before .before .uses-eeprom .ensures) in
     let e = c .before .with-eeprom .ensures ∙ ap (λ (x : Eeprom). cartWith (a .cart) (a .cart .dirty) (chipRecord (a .cart .chip .flash) x)) (c .before .before .after-read .ensures) in
     ap (λ (r : Reply). (r, m)) (c .done .ensures ∙ ap₂ done v e)
-    ∙ ap replied (sym (step-yes eepromRead [] (state (a .cart) m) (c .before .before .before .before .before .before .before .before .door .result) (c .before .before .before .before .before .before .before .before .door .ensures) (c .before .before .before .before .before .before .before .if1 .left)))
+    ∙ ap replied (sym (step-kept eepromRead [] (state (a .cart) m) (c .before .before .before .before .before .before .before .before .door .result) (c .before .before .before .before .before .before .before .before .door .ensures) refl (c .before .before .before .before .before .before .before .if1 .left)))
 
 pub eeprom-read-spec : {M : Type 1} → statement M
 eeprom-read-spec =

@@ -8,9 +8,8 @@ use native.Mathlib.Omega.{arith}
 use lib.ListN.{length}
 use Rattle.cart.specs.declared.Reply.{Reply}
 use Rattle.lists.proofs.Bools.{denied, granted}
-use Rattle.cart.specs.Record.{State}
-use Rattle.cart.specs.Calls.{eepromWrite, questions, accepted}
-use Rattle.cart.specs.Replies.{state, done, replied}
+use Rattle.cart.specs.Calls.{eepromWrite, questions}
+use Rattle.cart.specs.Replies.{state, replied}
 use borrow.Author.Needs.{needs}
 use Rattle.serial_calls.proofs.eeprom_write.Statement.{statement}
 use Rattle.serial_calls.proofs.eeprom_write.Tie as tie
@@ -40,15 +39,14 @@ bit-in-requires c κs =
     (y .0, granted _ (c .before .before .uses-eeprom .ensures) (c .before .if2 .left), y .1)
 
 returns-3 : tie.Need-returns-3
-unfolding questions accepted
+unfolding questions
 returns-3 c =
-    let a = c .before .before .before .before .before .before .before .before .before .before .args in
-    let d = c .before .before .before .before .before .before .before .before .door in
+    let a = c .before .before .before .before .before .before .before .before .before .args in
+    let d = c .before .before .before .before .before .before .before .door in
     let n = length (a .memory .now) in
-    let e = door-more (a .cart) n (usesEeprom (a .cart .kind) else 4 ∷ []) (d .result) (d .ensures) (c .before .before .before .before .before .before .before .if1 .left) in
-    let w = c .before .before .before .bit-in in
-    ap (λ (r : Reply). (r, w .last .1 .0)) (c .done .ensures) ∙ ap (λ (s : State). (done 0 (s .cart), s .memory)) (w .ensures)
-    ∙ ap replied (sym (step-yes (eepromWrite (a .value)) [] (state (a .cart) (a .memory .now)) 0 (sym (e ∙ rw (granted _ (c .before .before .before .before .before .before .uses-eeprom .ensures) (c .before .before .before .before .before .if2 .left)))) refl))
+    let e = door-more (a .cart) n (usesEeprom (a .cart .kind) else 4 ∷ []) (d .result) (d .ensures) (c .before .before .before .before .before .before .if1 .left) in
+    c .before .before .bit-in .ensures
+    ∙ ap replied (sym (step-yes (eepromWrite (a .value)) [] (state (a .cart) (a .memory .now)) 0 (sym (e ∙ rw (granted _ (c .before .before .before .before .before .uses-eeprom .ensures) (c .before .before .before .before .if2 .left)))) refl))
 
 pub eeprom-write-spec : {M : Type 1} → statement M
 eeprom-write-spec =
@@ -61,6 +59,5 @@ eeprom-write-spec =
     (λ c κs. search needs)
     returns-2
     bit-in-requires
-    (λ c κs. search needs)
     (λ c. search needs)
     returns-3)

@@ -10,8 +10,10 @@ use Rattle.lists.proofs.Bools.{denied, granted}
 use Rattle.cart.specs.declared.Reply.{Reply}
 use borrow.Author.Tests.{eq-eqb, ne-eqb}
 use Rattle.memory.specs.Memory.{erased, stored}
+use Rattle.memory.proofs.Counts.{memory-is}
 use Rattle.kind.specs.declared.SaveType.the-variants.{None}
 use Rattle.kind.specs.Kind.{memorySize}
+use Rattle.kind.proofs.Sizes.{memory-small}
 use Rattle.part.specs.declared.Part.the-variants.{Usual}
 use Rattle.part.specs.Part.{partOf, numberFits}
 use Rattle.cart.specs.Record.{freshCart, fresh, outcome, openQuestions, fromBytes}
@@ -57,6 +59,11 @@ returns-3 c =
     ap (λ (r : Reply). (r, m)) (c .refuse3 .ensures ∙ ap (refused 15) (c .before .no-cart3 .ensures))
     ∙ unopened (a .image .now) (a .part) m 15 (rw (e, ← n, eq-eqb _ _ (t .if2 .left), f)) (λ z. omega arith)
 
+apply-requires : tie.Need-apply-requires
+apply-requires c κs =
+    let t = c .before .before .before .before in
+    omega (arith, t .if2 .left, t .before .memory-size .ensures, memory-small (t .before .before .detect-save-type .result))
+
 returns-4 : tie.Need-returns-4
 unfolding fromBytes fresh stored
 returns-4 c =
@@ -73,7 +80,7 @@ returns-4 c =
     let f = granted _ (g .before .number-fits .ensures ∙ ap (numberFits p) k) (g .if3 .left) in
     ap₂ (λ (r : Reply) (l : List ℕ). (r, l))
     (c .done .ensures ∙ ap (done 0) (c .before .fresh-cart .ensures ∙ ap₂ (freshCart (length i)) k (c .before .before .part-of .ensures)))
-    (c .before .before .before .before .before .apply .ensures ∙ ap erased (t .if2 .left ∙ n))
+    (memory-is (c .before .before .before .before .before .apply .ensures) ∙ ap erased (t .if2 .left ∙ n))
     ∙ ap replied
     (sym (guarded-yes (openQuestions i p m) [] (state (freshCart 0 None Usual) m) (outcome [] (fresh i (partOf p)) []) 0 (rw (e, ← n, eq-eqb _ _ (t .if2 .left), f)) refl))
 
@@ -95,7 +102,7 @@ from-number-spec =
     (λ c κs. search needs)
     returns-3
     (λ c. search needs)
-    (λ c κs. search needs)
+    apply-requires
     (λ c κs. search needs)
     (λ c κs. search needs)
     (λ c κs. search needs)

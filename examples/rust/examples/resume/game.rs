@@ -1,4 +1,5 @@
-//! What games do to a cartridge: images with a marker, flash commands, serial commands with 14 address bits.
+//! What games do to a cartridge: images with a marker, flash commands, serial commands with 14 address bits. A function that
+//! writes returns how many bytes of the memory have changed.
 
 use gbasave::{header_checksum, Cartridge, Refusal};
 
@@ -19,10 +20,8 @@ pub fn image(title: &str, marker: &str) -> Vec<u8> {
     image
 }
 
-fn flash_command(cart: &mut Cartridge, address: u32, command: u8) {
-    cart.save_write(0x0E00_5555, 0xAA);
-    cart.save_write(0x0E00_2AAA, 0x55);
-    cart.save_write(address, command);
+fn flash_command(cart: &mut Cartridge, address: u32, command: u8) -> usize {
+    cart.save_write(0x0E00_5555, 0xAA) + cart.save_write(0x0E00_2AAA, 0x55) + cart.save_write(address, command)
 }
 
 pub fn flash_id_mode(cart: &mut Cartridge, on: bool) {
@@ -47,14 +46,16 @@ pub fn flash_select_bank(cart: &mut Cartridge, bank: u8) {
     cart.save_write(0x0E00_0000, bank);
 }
 
-pub fn flash_program(cart: &mut Cartridge, address: u32, value: u8) {
-    flash_command(cart, 0x0E00_5555, 0xA0);
-    cart.save_write(address, value);
+pub fn flash_program(cart: &mut Cartridge, address: u32, value: u8) -> usize {
+    flash_command(cart, 0x0E00_5555, 0xA0) + cart.save_write(address, value)
 }
 
-pub fn flash_erase_sector(cart: &mut Cartridge, address: u32) {
-    flash_command(cart, 0x0E00_5555, 0x80);
-    flash_command(cart, address, 0x30);
+pub fn flash_erase_sector(cart: &mut Cartridge, address: u32) -> usize {
+    flash_command(cart, 0x0E00_5555, 0x80) + flash_command(cart, address, 0x30)
+}
+
+pub fn flash_erase_chip(cart: &mut Cartridge) -> usize {
+    flash_command(cart, 0x0E00_5555, 0x80) + flash_command(cart, 0x0E00_5555, 0x10)
 }
 
 /// The lowest `width` bits of `number`, highest first.
@@ -72,11 +73,11 @@ pub fn read_bits(block: u64) -> Vec<u16> {
     bits(0b11, 2).chain(bits(block, 14)).chain([0]).collect()
 }
 
-pub fn send(cart: &mut Cartridge, bits: &[u16]) -> Result<(), Refusal> {
-    bits.iter().try_for_each(|&bit| cart.eeprom_write(bit))
+pub fn send(cart: &mut Cartridge, bits: &[u16]) -> Result<usize, Refusal> {
+    bits.iter().map(|&bit| cart.eeprom_write(bit)).sum()
 }
 
-pub fn write_block(cart: &mut Cartridge, block: u64, data: u64) -> Result<(), Refusal> {
+pub fn write_block(cart: &mut Cartridge, block: u64, data: u64) -> Result<usize, Refusal> {
     cart.eeprom_begin_dma(WRITE_BITS as u32)?;
     send(cart, &write_bits(block, data))
 }

@@ -1,6 +1,8 @@
 //! A small host. It opens images, saves on every chip, takes states in the middle of an 81-bit write and resumes them in a fresh
-//! cartridge and in the open one. It gives a game the flash chip that the game looks for. A wrong answer ends the program.
+//! cartridge and in the open one. It gives a game the flash chip that the game looks for. It writes the file out when enough bytes
+//! have changed. A wrong answer ends the program.
 
+mod budget;
 mod game;
 mod parts;
 mod refusals;
@@ -9,7 +11,7 @@ mod states;
 use std::error::Error;
 
 use game::{image, WRITE_BITS};
-use gbasave::{detect_save_type, header_checksum, read, rom_crc, title, Cartridge, Kind, Refusal, State};
+use gbasave::{detect_save_type, header_checksum, read, rom_crc, title, Cartridge, Imported, Kind, Refusal, State};
 
 fn name(kind: Kind) -> &'static str {
     match kind {
@@ -42,7 +44,7 @@ fn sram_story() -> Result<(), Refusal> {
     let mut cart = Cartridge::open(&image)?;
     assert!(!cart.take_save_dirty());
     for (address, &byte) in (0x0E00_0010..).zip(b"SAVE") {
-        cart.save_write(address, byte);
+        assert_eq!(cart.save_write(address, byte), 1);
         assert_eq!((cart.save_read(address), cart.save_read(address + 0x8000)), (byte, byte));
     }
     println!("  {:24} {}", "stored from 10h on", hex(&cart.memory()[0x10..0x15]));
@@ -52,9 +54,10 @@ fn sram_story() -> Result<(), Refusal> {
     let mut file = cart.save_data().expect("SRAM has a file");
     file.extend([0xEE; 16]);
     let mut other = Cartridge::open(&image)?;
-    let kept = other.import_save(&file)?;
-    println!("  a file of {} bytes is imported elsewhere, {kept} kept", file.len());
+    let Imported { kept, changed } = other.import_save(&file)?;
+    println!("  a file of {} bytes is imported elsewhere, {kept} kept, {changed} changed", file.len());
     assert_eq!(other.memory(), cart.memory());
+    assert_eq!(changed, 4);
     let written = [other.save_data().expect("SRAM has a file"), file[kept..].to_vec()].concat();
     assert_eq!(written, file);
     Ok(())
@@ -70,17 +73,17 @@ fn flash_story() -> Result<(), Refusal> {
     println!("  {:24} {}", "maker and device", hex(&id));
     assert_eq!(id, [0x62, 0x13]);
 
-    game::flash_program(&mut cart, 0x0E00_3000, 0x11);
+    assert_eq!(game::flash_program(&mut cart, 0x0E00_3000, 0x11), 1);
     game::flash_select_bank(&mut cart, 1);
-    game::flash_program(&mut cart, 0x0E00_3000, 0x22);
-    game::flash_program(&mut cart, 0x0E00_4000, 0x33);
+    assert_eq!(game::flash_program(&mut cart, 0x0E00_3000, 0x22), 1);
+    assert_eq!(game::flash_program(&mut cart, 0x0E00_4000, 0x33), 1);
     let show = |what, cart: &Cartridge| {
         let bytes = (cart.memory()[0x3000], cart.save_read(0x0E00_3000), cart.save_read(0x0E00_4000));
         println!("  {what:24} bank 0, 3000h: {:02X}; bank 1, 3000h: {:02X}, 4000h: {:02X}", bytes.0, bytes.1, bytes.2);
         bytes
     };
     assert_eq!(show("programmed", &cart), (0x11, 0x22, 0x33));
-    game::flash_erase_sector(&mut cart, 0x0E00_3000);
+    assert_eq!(game::flash_erase_sector(&mut cart, 0x0E00_3000), 1);
     assert_eq!(show("bank 1, 3000h erased", &cart), (0x11, 0xFF, 0x33));
     Ok(())
 }
@@ -110,7 +113,7 @@ fn played(image: &[u8], cut: Option<Cut>, shown: bool) -> Result<State, Box<dyn 
     cart.eeprom_begin_dma(WRITE_BITS as u32)?;
     let bits = game::write_bits(100, DATA);
     let (before, after) = bits.split_at(cut.map_or(0, Cut::bits));
-    game::send(&mut cart, before)?;
+    let changed = game::send(&mut cart, before)?;
     if let Some(cut) = cut {
         let state = cart.state();
         if shown {
@@ -121,11 +124,12 @@ fn played(image: &[u8], cut: Option<Cut>, shown: bool) -> Result<State, Box<dyn 
         match cut {
             Cut::Fresh(_) => cart = Cartridge::open(image)?,
             // What is played on after the state was taken is forgotten.
-            Cut::Open(_) => game::write_block(&mut cart, 100, EARLIER)?,
+            Cut::Open(_) => drop(game::write_block(&mut cart, 100, EARLIER)?),
         }
         cart.resume(&state)?;
     }
-    game::send(&mut cart, after)?;
+    let changed = changed + game::send(&mut cart, after)?;
+    assert_eq!(changed, 8, "the write changes the block's eight bytes, cut or uncut");
 
     let (earlier, data) = (game::read_block(&mut cart, 3)?, game::read_block(&mut cart, 100)?);
     let end = cart.state();
@@ -161,5 +165,6 @@ fn main() -> Result<(), Box<dyn Error>> {
     eeprom_story()?;
     states::shown()?;
     parts::shown()?;
+    budget::shown()?;
     Ok(refusals::shown()?)
 }

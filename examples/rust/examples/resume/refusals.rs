@@ -14,7 +14,7 @@ pub fn shown() -> Result<(), Refusal> {
 
     let mut sram = Cartridge::open(&image("SRAM REFUSED", "SRAM_V"))?;
     let fresh = sram.clone();
-    refused(Refusal::NoEeprom, "a serial bit to SRAM", sram.eeprom_write(1));
+    refused(Refusal::NoEeprom, "a serial bit to SRAM", sram.eeprom_write(1).map(drop));
 
     let mut cart = Cartridge::open(&image("EEPROM REFUS", "EEPROM_V"))?;
     cart.eeprom_begin_dma(WRITE_BITS as u32)?;

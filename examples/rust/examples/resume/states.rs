@@ -7,8 +7,8 @@ use gbasave::{Cartridge, NotResumed, Refusal, State};
 
 /// Resumes the state. The file has not been written out since, so it counts as changed, until it is asked for.
 fn resumed(what: &str, cart: &mut Cartridge, state: &State) -> Result<(), NotResumed> {
-    cart.resume(state)?;
-    assert_eq!(cart.save_read(0x0E00_0000), 0x5A);
+    let changed = cart.resume(state)?;
+    assert_eq!((cart.save_read(0x0E00_0000), changed), (0x5A, 1));
     assert!(cart.take_save_dirty() && !cart.take_save_dirty());
     println!("  {what:24} resumed; the file counts as changed");
     Ok(())

@@ -24,7 +24,7 @@ fn import_keeps_what_save_fit_keeps() {
                     assert_eq!(cart, before);
                 }
                 Some(kept) => {
-                    assert_eq!(cart.import_save(&file), Ok(kept));
+                    assert_eq!(cart.import_save(&file).map(|imported| imported.kept), Ok(kept));
                     assert_eq!(cart.save_data().unwrap(), file[..kept]);
                     assert!(kind != Kind::None);
                 }

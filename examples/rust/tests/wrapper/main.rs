@@ -1,6 +1,7 @@
 //! Tests of the wrapper's calls.
 
 mod bytes;
+mod changed;
 mod files;
 #[path = "../../examples/resume/game.rs"]
 mod game;

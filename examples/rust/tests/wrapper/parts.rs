@@ -88,7 +88,8 @@ fn a_state_is_resumed_with_its_own_part_only() {
             game::flash_id_mode(&mut taken, true);
             for other in &carts {
                 let (mut resumed, same) = (other.clone(), other.part() == cart.part());
-                assert_eq!(resumed.resume(&taken.state()), if same { Ok(()) } else { Err(NotResumed::OtherPart) });
+                let expected = if same { Ok(()) } else { Err(NotResumed::OtherPart) };
+                assert_eq!(resumed.resume(&taken.state()).map(drop), expected);
                 assert!(same || resumed == *other);
                 if same && is_flash(kind) {
                     assert_eq!(game::read_id_word(&resumed), word(cart.part(), kind).unwrap());

@@ -27,8 +27,8 @@ fn a_state_resumes_after_every_bit() {
     }
 }
 
-/// Changes something on every kind that has a file.
-fn play(cart: &mut Cartridge) {
+/// Changes something on every kind that has a file. Returns how many bytes.
+fn play(cart: &mut Cartridge) -> usize {
     match cart.kind() {
         Kind::None | Kind::Sram => cart.save_write(0x0E00_0010, 0x5A),
         Kind::Flash64 | Kind::Flash128 => game::flash_program(cart, 0x0E00_0010, 0x5A),
@@ -50,6 +50,20 @@ fn a_resumed_file_counts_as_changed() {
             assert_eq!(cart.take_save_dirty(), kind != Kind::None, "{kind:?}");
             assert!(!cart.take_save_dirty());
             assert_eq!(cart.save_data(), state.file);
+        }
+    }
+}
+
+#[test]
+fn a_resumed_state_says_how_many_bytes_changed() {
+    for (kind, image) in images() {
+        let mut cart = Cartridge::open(&image).unwrap();
+        let fresh = cart.state();
+        let changed = play(&mut cart);
+        assert_eq!(changed, [0, 1, 1, 1, 8, 8][kind.number() as usize]);
+        let played = cart.state();
+        for (state, expected) in [(&played, 0), (&fresh, changed), (&fresh, 0), (&played, changed)] {
+            assert_eq!(cart.resume(state), Ok(expected), "{kind:?}");
         }
     }
 }
@@ -92,7 +106,7 @@ fn the_state_of_another_cartridge_is_not_resumed() {
     for (i, cart) in carts.iter().enumerate() {
         for (j, other) in carts.iter().enumerate() {
             let (mut cart, before) = (cart.clone(), cart.clone());
-            let expected = if i == j { Ok(()) } else { Err(NotResumed::OtherCartridge) };
+            let expected = if i == j { Ok(0) } else { Err(NotResumed::OtherCartridge) };
             assert_eq!(cart.resume(&other.state()), expected);
             assert!(i == j || cart == before);
         }

@@ -1,3 +1,7 @@
+-- `memory::leaves::erase` meets its contract. Assumes nothing.
+use mathlib.Core.Path.{ap₂}
+use mathlib.Core.List.{List}
+use Prim.Native.Nat.{ℕ}
 use Rattle.memory.specs.Memory.{erased}
 use borrow.Author.Needs.{needs}
 use Rattle.memory.proofs.leaves.erase.Statement.{statement}
@@ -5,7 +9,8 @@ use Rattle.memory.proofs.leaves.erase.Tie as tie
 
 returns : tie.Need-returns
 unfolding erased
-returns c = search needs
+returns c =
+    ap₂ (λ (n : ℕ) (l : List ℕ). (n, l)) (c .before .before .before .before .used .ensures) (c .before .before .fill .ensures)
 
 pub erase-spec : {M : Type 1} → statement M
-erase-spec = tie.close (tie.spec (λ c κs. search needs) (λ c. search needs) returns)
+erase-spec = tie.close (tie.spec (λ c κs. search needs) (λ c κs. search needs) (λ c. search needs) returns)

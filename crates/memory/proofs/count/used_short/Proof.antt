@@ -1,0 +1,61 @@
+use mathlib.Core.Path.{_≡_}
+use Prim.Native.Nat.{_+_, _-_, _≤_}
+use native.Mathlib.Omega.{arith}
+use lib.ListN.{length, drop}
+use Rattle.memory.proofs.Counts.{used, used-le, used-next, used-end}
+use borrow.Author.Needs.{needs}
+use Rattle.memory.proofs.count.used_short.Statement.{statement}
+use Rattle.memory.proofs.count.used_short.Tie as tie
+
+abbrev Inv-loop : tie.InvT-loop
+Inv-loop s n₀ i₀ n i = (i ≤ length s) × (n + used (drop i s) ≡ used s)
+
+abbrev μ-loop : tie.MeasureT-loop
+μ-loop s n₀ i₀ n i = length s - i
+
+loop-holds : tie.Need-loop-holds Inv-loop μ-loop
+loop-holds c = search needs
+
+shared-slice-read-differs : tie.Need-shared-slice-read-differs Inv-loop μ-loop
+shared-slice-read-differs c = search needs
+
+differs-requires : tie.Need-differs-requires Inv-loop μ-loop
+differs-requires c κs = search needs
+
+add-n : tie.Need-add-n Inv-loop μ-loop
+add-n c =
+    let s = c .before .before .before .before .before .args .s .now in
+    let b = c .before .before .before .loop in
+    omega (arith, used-le s, used-next s (b .i) (omega arith))
+
+add-i : tie.Need-add-i Inv-loop μ-loop
+add-i c = search needs
+
+loop-less : tie.Need-loop-less Inv-loop μ-loop
+loop-less c = search needs
+
+loop-again : tie.Need-loop-again Inv-loop μ-loop
+loop-again c =
+    let s = c .before .before .before .before .before .args .s .now in
+    let b = c .before .before .before .loop in
+    (omega arith, omega (arith, used-next s (b .i) (omega arith)))
+
+returns : tie.Need-returns Inv-loop μ-loop
+returns c =
+    let s = c .before .before .before .args .s .now in
+    omega (arith, used-end s (c .before .loop .i) (omega arith))
+
+pub used-short-spec : {M : Type 1} → statement M
+used-short-spec =
+    tie.close
+    (tie.spec
+    Inv-loop
+    μ-loop
+    loop-holds
+    shared-slice-read-differs
+    differs-requires
+    add-n
+    add-i
+    loop-less
+    loop-again
+    returns)
