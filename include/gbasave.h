@@ -83,7 +83,7 @@
  *     a step or a bit of a command that stores nothing; kind NONE                 0
  *
  * The number is for a host with a write-back budget. Such a host adds the numbers up, and writes out the file when the
- * sum reaches the budget. The memory differs in at most as many bytes from what it was when the sum was 0.
+ * sum reaches the budget. In at most that many bytes the memory differs from what it was when the sum was 0.
  *
  * The number does not replace the changed flag. Storing the value that is already there gives 0 and sets the flag to 1.
  * Loads, imports and byte writes to an EEPROM kind have a number, and leave the flag as it was. Opening has no number.
@@ -516,17 +516,17 @@ uint32_t gbasave_import_save(gbasave_record *record, uint8_t *memory, size_t mem
  * written to its beginning, as many as there is room for. On EEPROM kinds a file longer than 512 bytes makes the chip
  * large. For kind NONE nothing happens.
  *   Asks:    2, 3
- *   Writes:  *changed: how many bytes of the memory have changed: 0 if they are what was there already. Of a file of
- *            0 bytes it is the number of bytes that were not FFh.
+ *   Writes:  *changed: how many bytes of the memory have changed. Loading what is there gives 0, loading 0 bytes gives
+ *            the number of bytes that were not FFh.
  *   Changes: memory; record (large). The flag and the part keep their values.
  */
 uint32_t gbasave_load_save(gbasave_record *record, uint8_t *memory, size_t memory_length, const uint8_t *file,
                            size_t file_length, uint32_t *changed);
 
 /*
- * Reads the changed flag and clears it. The flag is 1 if a write has stored anything since the flag was last taken, even
- * what was there already. Byte writes to an EEPROM kind, loads, imports and restores do not set it. The caller sets it
- * when it resumes a state.
+ * Reads the changed flag and clears it. The flag is 1 if a write has stored anything since the flag was last taken,
+ * even what was there already. Byte writes to an EEPROM kind, loads, imports and restores do not set it. The caller
+ * sets it when it resumes a state.
  *   Asks:    2
  *   Writes:  *flag, 0 or 1.
  *   Changes: record: flag 0.

@@ -124,7 +124,8 @@ static void write_out(host *h)
     h->unwritten = 0;
 }
 
-/* Adds the numbers of a frame. At its end the file is written out if the budget is reached. The flag is then taken too. */
+/* Adds the numbers of a frame. At its end the file is written out if the budget is reached. The flag is then taken too: it
+   stands for what is now written out. */
 static void end_frame(host *h, uint32_t changed)
 {
     h->unwritten += changed;

@@ -104,8 +104,8 @@ impl<'a> Pair<'a> {
     /// Import, which for the original is a load of what is kept.
     pub fn import(&mut self, (length, kept): (u32, usize), seed: u8) {
         let file = files::file(length, seed);
-        let answers = [self.original.import(&file, kept), self.part.import(&file, kept)];
-        let answers = [answers[0].with_changed(count(&mut self.before, self.original.memory())), answers[1]];
+        let mut answers = [self.original.import(&file, kept), self.part.import(&file, kept)];
+        answers[0] = answers[0].with_changed(count(&mut self.before, self.original.memory()));
         self.compare(answers, || format!("import of {length} bytes with seed {seed}"));
     }
 

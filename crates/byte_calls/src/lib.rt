@@ -46,7 +46,10 @@ fn write_save(cart: Cartridge, memory: &mut [u8], address: u32, value: u8) -> Re
     let store = t.store;
     let next = t.flash;
     let changed = memory::apply(store, &NO_FILE, memory);
-    cart::stored(changed, cart::with_flash(cart, memory::flag_after(t.sets, cart.dirty), next))
+    cart::stored(
+        changed,
+        cart::with_flash(cart, memory::flag_after(t.sets, cart.dirty), next),
+    )
 }
 
 pub fn save_write(cart: Cartridge, memory: &mut [u8], address: u32, value: u8) -> Reply

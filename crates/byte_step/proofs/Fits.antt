@@ -1,15 +1,16 @@
 -- What a written byte stores lies within the memory. Assumes nothing.
-use mathlib.Core.Path.{_≡_}
+use mathlib.Core.Path.{_≡_, refl}
+use mathlib.Core.Bool.{true}
 use Prim.Native.Nat.{ℕ, _/_, _%_, _≤_, _<_}
 use native.Mathlib.Nat.{mod-lt}
 use native.Mathlib.Omega.{arith}
-use Rattle.memory.specs.Memory.{Fits}
+use Rattle.memory.specs.Memory.{Fits, stores}
 use Rattle.kind.specs.declared.SaveType.{SaveType}
 use Rattle.kind.specs.declared.SaveType.the-variants.{None, Sram, Flash64, Flash128, Eeprom512, Eeprom8k}
 use Rattle.kind.specs.Kind.{memorySize}
 use Rattle.flash.specs.declared.Flash.{Flash}
 use Rattle.flash.specs.Flash.{place, flashWrite}
-use Rattle.flash.proofs.Sound.{way, fits-way}
+use Rattle.flash.proofs.Sound.{way, fits-way, id-way}
 use Rattle.byte_step.specs.ByteStep.{writeStep}
 
 place-lt : (f : Flash) (n a : ℕ) → 0 < n → place f n a < n
@@ -27,3 +28,13 @@ step-fits Flash64 f n a v e = flash-fits f n a v (omega (arith, e)) (omega (arit
 step-fits Flash128 f n a v e = flash-fits f n a v (omega (arith, e)) (omega (arith, e)) (omega (arith, e))
 step-fits Eeprom512 f n a v e = omega (arith, e)
 step-fits Eeprom8k f n a v e = omega (arith, e)
+
+-- and a step that stores leaves ID mode
+pub step-id : (k : SaveType) (f : Flash) (n a v : ℕ) → stores (writeStep k f n a v .store) ≡ true → writeStep k f n a v .flash .id ≡ f .id
+unfolding writeStep
+step-id None f n a v h = refl
+step-id Sram f n a v h = refl
+step-id Flash64 f n a v h = id-way (way f n a v) h
+step-id Flash128 f n a v h = id-way (way f n a v) h
+step-id Eeprom512 f n a v h = refl
+step-id Eeprom8k f n a v h = refl

@@ -1,14 +1,16 @@
 -- The byte calls on a valid record's bytes. Assumes nothing.
 use mathlib.Core.Path.{_≡_, sym, ap, _∙_}
 use mathlib.Core.Logic.{_≢_}
+use mathlib.Core.Bool.{true}
 use mathlib.Core.List.{List, []}
 use Prim.Native.Nat.{ℕ}
 use native.Mathlib.Omega.{arith}
 use lib.ListN.{length}
-use Rattle.memory.specs.Memory.{stored, withCount}
+use Rattle.memory.specs.Memory.{stored, withCount, stores}
 use Rattle.kind.specs.Kind.{memorySize}
 use Rattle.byte_step.specs.declared.ByteStep.{ByteStep}
 use Rattle.byte_step.specs.ByteStep.{readByte, writeStep}
+use Rattle.byte_step.proofs.Fits.{step-id}
 use Rattle.cart.specs.Calls.{saveRead, saveWrite, readSave, writeSave, questions, accepted}
 use Rattle.c_record.specs.RecordBytes.{cartOf, Valid}
 use Rattle.c_record.specs.Fields.{withFlash, withId}
@@ -16,6 +18,13 @@ use Rattle.c_record.specs.AtExit.{valueAt, changedAt}
 use Rattle.c_record.specs.Calls.{reads, writes}
 use Rattle.c_record.proofs.FieldBytes.{put-flash}
 use Rattle.c_record.proofs.Calls.{memory-no, memory-yes, refused, done}
+
+-- a step that stores leaves ID mode
+pub step-kept : (r m : List ℕ) (a x : ℕ) (t : ByteStep) → t ≡ writeStep (cartOf r .kind) (cartOf r .chip .flash) (length m) a x
+    → stores (t .store) ≡ true → t .flash .id ≡ cartOf r .chip .flash .id
+step-kept r m a x t e h =
+    ap (λ (y : ByteStep). y .flash .id) e
+    ∙ step-id (cartOf r .kind) (cartOf r .chip .flash) (length m) a x (ap (λ (y : ByteStep). stores (y .store)) (sym e) ∙ h)
 
 module _ (r m : List ℕ) (v : Valid r) where
   -- question 3 is answered no

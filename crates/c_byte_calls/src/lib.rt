@@ -74,7 +74,7 @@ pub fn save_read(cart: &RecordBytes, memory: &[u8], address: u32, value: &mut u3
     read_usual(cart, memory, address, value)
 }
 
-// The record is updated first, so that nothing stays live across an erase.
+// The record is updated first, so that nothing but the place stays live across an erase.
 fn write_valid(
     cart: &mut RecordBytes,
     memory: &mut [u8],
@@ -96,6 +96,10 @@ fn write_valid(
     let next = t.flash;
     c_record::put_flash(cart, t.sets, next);
     *changed = memory::apply(store, &NO_FILE, memory);
+    // a store leaves ID mode
+    if memory::stores(store) {
+        return 0;
+    }
     c_record::put_bit(cart, layout::ID_MODE, flash.id, next.id);
     0
 }

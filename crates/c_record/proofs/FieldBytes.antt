@@ -1,11 +1,12 @@
 -- Fields read from a record's bytes and written among them. Assumes nothing.
-use mathlib.Core.Path.{_≡_, refl, sym, ap}
+use mathlib.Core.Path.{_≡_, refl, sym, ap, _∙_}
 use mathlib.Core.Bool.{Bool, true, false, _||_}
 use mathlib.Core.List.{List, [], _∷_, _++_}
 use Prim.Native.Nat.{ℕ, _/_, _%_}
 use lib.Dec.{eqb}
 use native.Mathlib.Omega.{arith}
-use lib.ListN.{getD}
+use lib.ListN.{getD, set}
+use lib.Seq.{set-getD}
 use Rattle.lists.specs.Lists.{lowFirst}
 use Rattle.lists.proofs.Digits.{low-bytes}
 use Rattle.kind.specs.Kind.{kindNumber}
@@ -28,6 +29,12 @@ flash-read r = λ i. record { state = sym (chip-at r 0 (omega arith)) i; bank = 
 pub id-byte : (r : List ℕ) → Valid r → (sets : Bool) (f : Flash) → getD (withFlash r sets f) 8 0 ≡ bit (cartOf r .chip .flash .id)
 unfolding recordBytes chipBytes lowFirst
 id-byte r v sets f = ap (λ (l : List ℕ). getD (withFlash l sets f) 8 0) (sym (v .back))
+
+-- a chip whose ID mode stays is put by `withFlash` alone
+pub id-stays : (r : List ℕ) → Valid r → (sets : Bool) (f : Flash) → f .id ≡ cartOf r .chip .flash .id → withFlash r sets f ≡ withId (withFlash r sets f) (f .id)
+id-stays r v sets f e =
+    let l : List ℕ = withFlash r sets f in
+    sym (set-getD l 8 0) ∙ ap (λ (n : ℕ). set l 8 n) (id-byte r v sets f ∙ ap bit (sym e))
 
 pub large-byte : (r : List ℕ) → Valid r → getD r 10 0 ≡ bit (cartOf r .chip .eeprom .large)
 unfolding recordBytes chipBytes lowFirst

@@ -11,7 +11,7 @@ use Rattle.lists.proofs.Bools.{cases}
 use Rattle.hex.specs.Hex.{hex}
 use Rattle.cart.specs.declared.Cartridge.{Cartridge}
 use Rattle.cart.specs.ChipState.{chipBytes}
-use Rattle.cart.specs.Record.{State, guarded, outcome}
+use Rattle.cart.specs.Record.{State, guarded, outcome, counted}
 use Rattle.cart.specs.Calls.{questions, accepted, step, saveRead, saveWrite, eepromBeginDma, eepromWrite, eepromRead, chipState}
 use Rattle.cart.specs.Replies.{replyOf}
 use Rattle.state_calls.specs.StateAnswer.{stateAnswer, orZeros}
@@ -28,13 +28,13 @@ low-digits v =
     rw (a, b)
 
 -- the line of a reply is that of the machine's answer, accepted or refused
-status-line : (qs : List Question) (d : List ℕ) (s t : State) → let o = guarded qs d s (outcome [] t d) in statusLine (replyOf o) ≡ lineOf (o .refusal) (o .given)
+status-line : (qs : List Question) (d : List ℕ) (s t : State) → let o = guarded qs d s (counted s (outcome [] t d)) in statusLine (replyOf o) ≡ lineOf (o .refusal) (o .given)
 status-line qs d s t = cases (eqb (asked qs) 0) (λ e. rw e) (λ e. rw e)
 
-value-line : (qs : List Question) (d : List ℕ) (s t : State) (v : ℕ) → let o = guarded qs d s (outcome (v ∷ []) t d) in valueLine (replyOf o) ≡ lineOf (o .refusal) (o .given)
+value-line : (qs : List Question) (d : List ℕ) (s t : State) (v : ℕ) → let o = guarded qs d s (counted s (outcome (v ∷ []) t d)) in valueLine (replyOf o) ≡ lineOf (o .refusal) (o .given)
 value-line qs d s t v = cases (eqb (asked qs) 0) (λ e. rw e) (λ e. rw (e, e))
 
-state-line : (qs : List Question) (d : List ℕ) (s t : State) (b : ℕ) (bs : List ℕ) → let o = guarded qs d s (outcome (b ∷ bs) t d) in stateLine (stateAnswer (o .refusal) (orZeros (o .given))) ≡ lineOf (o .refusal) (o .given)
+state-line : (qs : List Question) (d : List ℕ) (s t : State) (b : ℕ) (bs : List ℕ) → let o = guarded qs d s (counted s (outcome (b ∷ bs) t d)) in stateLine (stateAnswer (o .refusal) (orZeros (o .given))) ≡ lineOf (o .refusal) (o .given)
 state-line qs d s t b bs = cases (eqb (asked qs) 0) (λ e. rw e) (λ e. rw (e, e))
 
 pub read-line : (a : ℕ) (s : State) → let o = step (saveRead a) [] s in valueLine (replyOf o) ≡ lineOf (o .refusal) (o .given)

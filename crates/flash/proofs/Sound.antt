@@ -6,7 +6,7 @@ use native.Mathlib.Omega.{arith}
 use lib.Dec.{eqb}
 use Rattle.lists.proofs.Bools.{either}
 use Rattle.memory.specs.declared.Store.the-variants.{Nothing, Byte, Sector, Chip}
-use Rattle.memory.specs.Memory.{Fits}
+use Rattle.memory.specs.Memory.{Fits, stores}
 use Rattle.flash.specs.declared.Flash.{Flash}
 use Rattle.flash.specs.declared.FlashStep.{FlashStep}
 use Rattle.flash.specs.Flash.{stateAllowed, place, stepTo, to, storing, unlock, command, erase, flashWrite}
@@ -62,3 +62,12 @@ fits-way n k e g h bank = tt
 fits-way n k e g h byte = h
 fits-way n k e g h sector = omega arith
 fits-way n k e g h chip = omega arith
+
+-- a step that stores leaves ID mode
+pub id-way : {f : Flash} {p v : ℕ} {t : FlashStep} → Way f p v t → stores (t .store) ≡ true → t .flash .id ≡ f .id
+id-way (state s a) h = refl
+id-way (id on) h = let z : _≡_ {A = Bool} false true = h in cc
+id-way bank h = refl
+id-way byte h = refl
+id-way sector h = refl
+id-way chip h = refl

@@ -9,7 +9,7 @@ use lib.Seq.{take-all, drop-append-add, length-take-le}
 use Rattle.lists.specs.Lists.{digits, withPart}
 use Rattle.lists.proofs.Parts.{length-part, drop-part}
 use Rattle.memory.specs.declared.Store.{Store}
-use Rattle.memory.specs.Memory.{erased, Fits, filled}
+use Rattle.memory.specs.Memory.{erased, stored, withCount, Fits, filled}
 
 pub length-erased : (n : ℕ) → length (erased n) ≡ n
 unfolding erased
@@ -89,3 +89,6 @@ length-mid m a k h = simp (length-take, length-drop) (omega arith)
 -- what each store asks, and leaves, by its case
 pub fits-case : (store known : Store) (n : ℕ) → store ≡ known → Fits store n → Fits known n
 fits-case store known n e f = subst (λ (s : Store). Fits s n) e f
+
+pub stored-case : (store known : Store) (f m : List ℕ) {p : ℕ × List ℕ} → store ≡ known → p ≡ withCount m (stored known f m) → p ≡ withCount m (stored store f m)
+stored-case store known f m e q = q ∙ ap (λ (s : Store). withCount m (stored s f m)) (sym e)

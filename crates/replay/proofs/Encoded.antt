@@ -15,7 +15,7 @@ use Rattle.kind.specs.Kind.{memorySize, usesEeprom, detectSaveType}
 use Rattle.cart.specs.Record.{State, Outcome, fromBytes}
 use Rattle.cart.specs.Calls.{Call, saveRead, saveWrite, eepromBeginDma, eepromWrite, eepromRead, loadSave, saveData, chipState, takeSaveDirty, exported, fileOf, step}
 use Rattle.cart.specs.ChipState.{chipBytes}
-use Rattle.cart.specs.Cut.{fileLeft, bytesLeft, cuts, Turn, Compared, run, uncut}
+use Rattle.cart.specs.Cut.{fileLeft, bytesLeft, cuts, Turn, Compared, run, uncut, shown}
 use Rattle.cart.proofs.Sound.{record-allowed, memory-fits}
 use Rattle.cart.proofs.Recoverable.{Recoverable, recoverable-step}
 use Rattle.cart.proofs.Resume.{export-accepted, state-accepted, file-left, bytes-left}
@@ -57,11 +57,11 @@ shownFrom image part memory list s = encoded (memorySize (detectSaveType image))
 call-more : (image : List ℕ) (part : ℕ) (memory : List ℕ) (c : Call) (d : List ℕ) (k : ℕ) (list : List Turn) (s : State) (rest : Answered)
     → let o = step c d s in
     rest .bytes ++ ending (rest .next) ≡ shownFrom image part memory list (o .next)
-    → (shownBytes c (record { refusal = o .refusal; given = o .given; destination = o .destination }) ++ rest .bytes) ++ ending (rest .next) ≡ shownFrom image part memory (turn c d k ∷ list) s
+    → (shownBytes c (shown o) ++ rest .bytes) ++ ending (rest .next) ≡ shownFrom image part memory (turn c d k ∷ list) s
 unfolding encoded callsBytes run cuts
 call-more image part memory c d k list s rest e =
     let o = step c d s in
-    let b : List ℕ = shownBytes c (record { refusal = o .refusal; given = o .given; destination = o .destination }) in
+    let b : List ℕ = shownBytes c (shown o) in
     let r = run image part memory (uncut list) (o .next) in
     append-assoc b (rest .bytes) (ending (rest .next)) ∙ ap (λ (l : List ℕ). b ++ l) e
     ∙ sym (append-assoc b (callsBytes (map (λ t. t .call) list) (r .calls)) (fileBytes (memorySize (detectSaveType image)) (r .file) ++ (0 ∷ r .bytes)))
@@ -74,7 +74,7 @@ module _ (image : List ℕ) (part : ℕ) (memory : List ℕ) (list : List Place)
   call-shown : (c : Call) (d : List ℕ) → isByteWrite c && usesEeprom (detectSaveType image) ≡ false
       → let o = step c d s in
       let rest = playAll notCut list (o .next) in
-      (shownBytes c (record { refusal = o .refusal; given = o .given; destination = o .destination }) ++ rest .bytes) ++ ending (rest .next)
+      (shownBytes c (shown o) ++ rest .bytes) ++ ending (rest .next)
       ≡ shownFrom image part memory (turn c d k ∷ turns list) s
   call-shown c d w =
       let o = step c d s in

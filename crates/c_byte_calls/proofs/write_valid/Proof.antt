@@ -13,8 +13,8 @@ use Rattle.byte_step.specs.ByteStep.{writeStep}
 use Rattle.byte_step.proofs.Fits.{step-fits}
 use Rattle.cart.specs.ChipState.{bit}
 use Rattle.c_record.specs.Fields.{withId}
-use Rattle.c_record.proofs.FieldBytes.{id-byte}
-use Rattle.c_byte_calls.proofs.ByteCalls.{write-no, write-yes}
+use Rattle.c_record.proofs.FieldBytes.{id-byte, id-stays}
+use Rattle.c_byte_calls.proofs.ByteCalls.{write-no, write-yes, step-kept}
 use borrow.Author.Needs.{needs}
 use Rattle.c_byte_calls.proofs.write_valid.Statement.{statement}
 use Rattle.c_byte_calls.proofs.write_valid.Tie as tie
@@ -32,23 +32,40 @@ apply-requires c κs =
     let e = c .before .before .before .before .before .before .before .before .if1 .left ∙ c .before .before .before .before .before .before .before .before .before .memory-size .ensures in
     subst (λ (t : ByteStep). Fits (t .store) n) (sym (c .before .before .before .before .before .write-byte .ensures)) (step-fits (c .before .before .before .before .before .before .before .before .before .before .kind-in .result) _ n (a .address) (a .value) e)
 
-put-bit-requires : tie.Need-put-bit-requires
-put-bit-requires c κs =
-    let s = c .before .before .before .before .before .before .before .before .before .before .before .before .before .before .before .before .before in
-    let t = c .before .before .before .before .before .before .before .before .before .write-byte .result in
-    (omega arith, ap (λ (l : List ℕ). getD l 8 0) (c .before .before .before .before .before .before .put-flash .ensures) ∙ id-byte (s .args .cart .now) (s .pre) (t .sets) (t .flash) ∙ ap (λ (f : Flash). bit (f .id)) (sym (c .before .before .before .before .before .before .before .before .before .before .flash-in .ensures)))
-
 returns-2 : tie.Need-returns-2
 returns-2 c =
-    let s = c .before .before .before .before .before .before .before .before .before .before .before .before .before .before .before .before .before .before in
+    let w = c .before .before .before .before .before .before .before .before .before .before in
+    let s = w .before .before .before .before .before .before .before .before in
     let r = s .args .cart .now in
     let m = s .args .memory .now in
-    let k = c .before .before .before .before .before .before .before .before .before .before .before .before .before .before .before .kind-in in
-    let t = c .before .before .before .before .before .before .before .before .before .before .write-byte in
-    write-yes r m (s .pre) (c .before .before .before .before .before .before .before .before .before .before .before .before .before .if1 .left ∙ c .before .before .before .before .before .before .before .before .before .before .before .before .before .before .memory-size .ensures ∙ ap memorySize (k .ensures)) (s .args .address) (s .args .value) (s .args .changed .now) (t .result)
-    (t .ensures ∙ ap₂ (λ (x : SaveType) (f : Flash). writeStep x f (length m) (s .args .address) (s .args .value)) (k .ensures) (c .before .before .before .before .before .before .before .before .before .before .before .flash-in .ensures))
-    (c .put-bit .ensures ∙ ap (λ (l : List ℕ). withId l (t .result .flash .id)) (c .before .before .before .before .before .before .before .put-flash .ensures))
+    let f = w .before .flash-in .ensures in
+    let k = w .before .before .before .before .before .kind-in .ensures in
+    let t = w .write-byte .result in
+    let e = w .write-byte .ensures ∙ ap₂ (λ (x : SaveType) (y : Flash). writeStep x y (length m) (s .args .address) (s .args .value)) k f in
+    write-yes r m (s .pre) (w .before .before .before .if1 .left ∙ w .before .before .before .before .memory-size .ensures ∙ ap memorySize k) (s .args .address) (s .args .value) (s .args .changed .now) t e
+    (c .before .before .before .before .before .before .before .put-flash .ensures ∙ id-stays r (s .pre) (t .sets) (t .flash) (step-kept r m (s .args .address) (s .args .value) t e (sym (c .before .stores .ensures) ∙ c .if2 .taken)))
     (c .before .before .before .before .apply .ensures)
+
+put-bit-requires : tie.Need-put-bit-requires
+put-bit-requires c κs =
+    let w = c .before .before .before .before .before .before .before .before .before .before .before in
+    let s = w .before .before .before .before .before .before .before .before in
+    let t = w .write-byte .result in
+    (omega arith, ap (λ (l : List ℕ). getD l 8 0) (c .before .before .before .before .before .before .before .before .put-flash .ensures) ∙ id-byte (s .args .cart .now) (s .pre) (t .sets) (t .flash) ∙ ap (λ (f : Flash). bit (f .id)) (sym (w .before .flash-in .ensures)))
+
+returns-3 : tie.Need-returns-3
+returns-3 c =
+    let w = c .before .before .before .before .before .before .before .before .before .before .before .before in
+    let s = w .before .before .before .before .before .before .before .before in
+    let r = s .args .cart .now in
+    let m = s .args .memory .now in
+    let f = w .before .flash-in .ensures in
+    let k = w .before .before .before .before .before .kind-in .ensures in
+    let t = w .write-byte .result in
+    let e = w .write-byte .ensures ∙ ap₂ (λ (x : SaveType) (y : Flash). writeStep x y (length m) (s .args .address) (s .args .value)) k f in
+    write-yes r m (s .pre) (w .before .before .before .if1 .left ∙ w .before .before .before .before .memory-size .ensures ∙ ap memorySize k) (s .args .address) (s .args .value) (s .args .changed .now) t e
+    (c .put-bit .ensures ∙ ap (λ (l : List ℕ). withId l (t .flash .id)) (c .before .before .before .before .before .before .before .before .before .put-flash .ensures))
+    (c .before .before .before .before .before .before .apply .ensures)
 
 pub write-valid-spec : {M : Type 1} → statement M
 write-valid-spec =
@@ -62,6 +79,9 @@ write-valid-spec =
     (λ c κs. search needs)
     (λ c. search needs)
     apply-requires
+    (λ c κs. search needs)
+    (λ c. search needs)
+    returns-2
     put-bit-requires
     (λ c. search needs)
-    returns-2)
+    returns-3)

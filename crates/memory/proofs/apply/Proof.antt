@@ -1,11 +1,10 @@
 -- `memory::apply` meets its contract, case by case. Assumes nothing.
-use mathlib.Core.Path.{ap, sym, _∙_}
+use mathlib.Core.Path.{ap, sym}
 use Prim.Native.Nat.{ℕ}
 use lib.ListN.{length}
-use Rattle.memory.specs.declared.Store.{Store}
-use Rattle.memory.specs.declared.Store.the-variants.{Byte, Block, Sector, Chip, File}
-use Rattle.memory.specs.Memory.{stored, withCount}
-use Rattle.memory.proofs.Memory.{fits-case}
+use Rattle.memory.specs.declared.Store.the-variants.{Byte, Block}
+use Rattle.memory.specs.Memory.{stored}
+use Rattle.memory.proofs.Memory.{fits-case, stored-case}
 use Rattle.memory.proofs.Counts.{differing-same}
 use borrow.Author.Needs.{needs}
 use Rattle.memory.proofs.apply.Statement.{statement}
@@ -17,27 +16,11 @@ put-byte-requires c κs =
     let g = c .before .before .store .given in
     fits-case (s .args .store) (Byte (g .0 .0) (g .0 .1 .0)) (length (s .args .memory .now)) (g .1) (s .pre)
 
-put-block-requires : tie.Need-put-block-requires
-put-block-requires c κs =
+apply-any-requires : tie.Need-apply-any-requires
+apply-any-requires c κs =
     let s = c .before .before .before .before .before .before in
     let g = c .before .before .store2 .given in
     fits-case (s .args .store) (Block (g .0 .0) (g .0 .1 .0)) (length (s .args .memory .now)) (g .1) (s .pre)
-
-erase-sector-requires : tie.Need-erase-sector-requires
-erase-sector-requires c κs =
-    let s = c .before .before .before .before .before .before in
-    let g = c .before .before .store3 .given in
-    fits-case (s .args .store) (Sector (g .0 .0)) (length (s .args .memory .now)) (g .1) (s .pre)
-
-erase-requires : tie.Need-erase-requires
-erase-requires c κs =
-    let s = c .before .before .before .before .before in
-    fits-case (s .args .store) Chip (length (s .args .memory .now)) (c .before .enum-told2 .given .1) (s .pre)
-
-load-requires : tie.Need-load-requires
-load-requires c κs =
-    let s = c .before .before .before .before .before in
-    fits-case (s .args .store) File (length (s .args .memory .now)) (c .before .enum-told3 .given .1) (s .pre)
 
 returns : tie.Need-returns
 unfolding stored
@@ -49,27 +32,15 @@ returns-2 : tie.Need-returns-2
 unfolding stored
 returns-2 c =
     let a = c .before .before .before .before .before .before .before .before .before .args in
-    c .before .before .put-byte .ensures ∙ ap (λ (s : Store). withCount (a .memory .now) (stored s (a .file .now) (a .memory .now))) (sym (c .before .before .before .before .before .store .given .1))
+    let g = c .before .before .before .before .before .store .given in
+    stored-case (a .store) (Byte (g .0 .0) (g .0 .1 .0)) (a .file .now) (a .memory .now) (g .1) (c .before .before .put-byte .ensures)
 
 returns-3 : tie.Need-returns-3
 unfolding stored
 returns-3 c =
     let a = c .before .before .before .before .before .before .before .before .before .args in
-    c .before .before .put-block .ensures ∙ ap (λ (s : Store). withCount (a .memory .now) (stored s (a .file .now) (a .memory .now))) (sym (c .before .before .before .before .before .store2 .given .1))
-
-returns-4 : tie.Need-returns-4
-unfolding stored
-returns-4 c =
-    let a = c .before .before .before .before .before .before .before .before .before .args in
-    c .before .before .erase-sector .ensures ∙ ap (λ (s : Store). withCount (a .memory .now) (stored s (a .file .now) (a .memory .now))) (sym (c .before .before .before .before .before .store3 .given .1))
-
-returns-5 : tie.Need-returns-5
-unfolding stored
-returns-5 c = rw (c .before .before .before .before .enum-told2 .given .1) (c .before .before .erase .ensures)
-
-returns-6 : tie.Need-returns-6
-unfolding stored
-returns-6 c = rw (c .before .before .before .before .enum-told3 .given .1) (c .before .before .load .ensures)
+    let g = c .before .before .before .before .before .store2 .given in
+    stored-case (a .store) (Block (g .0 .0) (g .0 .1 .0)) (a .file .now) (a .memory .now) (g .1) (c .before .before .apply-any .ensures)
 
 pub apply-spec : {M : Type 1} → statement M
 apply-spec =
@@ -79,21 +50,12 @@ apply-spec =
     (λ c. search needs)
     put-byte-requires
     (λ c. search needs)
-    put-block-requires
-    (λ c. search needs)
-    erase-sector-requires
-    (λ c. search needs)
-    erase-requires
-    (λ c. search needs)
-    load-requires
+    apply-any-requires
+    (λ c κs. search needs)
     returns
     (λ c. search needs)
     returns-2
     (λ c. search needs)
     returns-3
     (λ c. search needs)
-    returns-4
-    (λ c. search needs)
-    returns-5
-    (λ c. search needs)
-    returns-6)
+    (λ c. search needs))

@@ -67,7 +67,8 @@ impl Host {
         self.unwritten = 0;
     }
 
-    /// Adds the numbers of a frame. At its end the file is written out if the budget is reached. The flag is then taken too.
+    /// Adds the numbers of a frame. At its end the file is written out if the budget is reached. The flag is then taken too: it
+    /// stands for what is now written out.
     fn end_frame(&mut self, changed: usize) {
         self.unwritten += changed;
         print!("{changed} changed, {} not written out", self.unwritten);

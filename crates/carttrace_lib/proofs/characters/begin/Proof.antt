@@ -3,6 +3,7 @@ use mathlib.Core.Path.{refl, sym, ap, _∙_}
 use native.Mathlib.Omega.{arith}
 use lib.Seq.{length-take-le}
 use Rattle.memory.specs.Memory.{stored}
+use Rattle.memory.proofs.Counts.{memory-is}
 use Rattle.frames.specs.declared.FirstLine.{FirstLine}
 use Rattle.frames.specs.declared.FirstLine.the-variants.{Fresh, NoKind}
 use Rattle.carttrace_lib.specs.declared.Stage.the-variants.{Playing, Over}
@@ -20,6 +21,13 @@ slice-aggregate-apply-2 c =
     let s = c .before .before .before .before .before .before .before .before in
     sym (length-take-le _ (s .args .memory .now) (omega (arith, c .before .before .memory-size .ensures, memory-small (c .before .before .before .before .first .given .0 .0), s .pre .0)))
 
+apply-requires : tie.Need-apply-requires
+apply-requires c κs =
+    let s = c .before .before .before .before .before .before .before .before in
+    let n = c .before .before .memory-size .ensures in
+    let k = memory-small (c .before .before .before .before .first .given .0 .0) in
+    omega (arith, n, k, length-take-le (c .before .before .memory-size .result) (s .args .memory .now) (omega (arith, n, k, s .pre .0)))
+
 print-status-requires : tie.Need-print-status-requires
 print-status-requires c κs = omega (arith, c .before .before .before .before .before .before .before .before .before .before .before .before .before .before .before .pre .1)
 
@@ -35,7 +43,7 @@ returns c =
     tells (begun (Fresh kind) (a .session) (a .memory .now)) (a .out .now) (c .told-with .ensures)
     (c .before .before .before .before .before .session-with .ensures ∙ (λ i. sessionWith Playing (c .before .before .before .before .before .before .before .empty-line .ensures i) (c .before .before .before .before .before .before .fresh-cart .ensures i)))
     (c .before .before .before .print-status .ensures)
-    (erased-front kind (a .memory .now) n (omega (arith, n, memory-small kind, s .pre .0)) (w .apply .ensures))
+    (erased-front kind (a .memory .now) n (omega (arith, n, memory-small kind, s .pre .0)) (memory-is (w .apply .ensures)))
     ∙ ap (λ (x : FirstLine). told (begun x (a .session) (a .memory .now)) (a .out .now)) (sym (f .1))
 
 returns-2 : tie.Need-returns-2
@@ -57,7 +65,7 @@ begin-spec =
     (λ c. search needs)
     slice-relend-prefix-apply
     slice-aggregate-apply-2
-    (λ c κs. search needs)
+    apply-requires
     (λ c κs. search needs)
     (λ c κs. search needs)
     (λ c κs. search needs)
