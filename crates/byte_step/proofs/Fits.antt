@@ -29,7 +29,7 @@ step-fits Flash128 f n a v e = flash-fits f n a v (omega (arith, e)) (omega (ari
 step-fits Eeprom512 f n a v e = omega (arith, e)
 step-fits Eeprom8k f n a v e = omega (arith, e)
 
--- and a step that stores leaves ID mode
+-- and a step that stores does not change ID mode
 pub step-id : (k : SaveType) (f : Flash) (n a v : ℕ) → stores (writeStep k f n a v .store) ≡ true → writeStep k f n a v .flash .id ≡ f .id
 unfolding writeStep
 step-id None f n a v h = refl

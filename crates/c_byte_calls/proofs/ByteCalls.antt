@@ -19,10 +19,10 @@ use Rattle.c_record.specs.Calls.{reads, writes}
 use Rattle.c_record.proofs.FieldBytes.{put-flash}
 use Rattle.c_record.proofs.Calls.{memory-no, memory-yes, refused, done}
 
--- a step that stores leaves ID mode
-pub step-kept : (r m : List ℕ) (a x : ℕ) (t : ByteStep) → t ≡ writeStep (cartOf r .kind) (cartOf r .chip .flash) (length m) a x
+-- a step that stores does not change ID mode
+pub id-kept : (r m : List ℕ) (a x : ℕ) (t : ByteStep) → t ≡ writeStep (cartOf r .kind) (cartOf r .chip .flash) (length m) a x
     → stores (t .store) ≡ true → t .flash .id ≡ cartOf r .chip .flash .id
-step-kept r m a x t e h =
+id-kept r m a x t e h =
     ap (λ (y : ByteStep). y .flash .id) e
     ∙ step-id (cartOf r .kind) (cartOf r .chip .flash) (length m) a x (ap (λ (y : ByteStep). stores (y .store)) (sym e) ∙ h)
 

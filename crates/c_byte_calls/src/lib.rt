@@ -96,7 +96,7 @@ fn write_valid(
     let next = t.flash;
     c_record::put_flash(cart, t.sets, next);
     *changed = memory::apply(store, &NO_FILE, memory);
-    // a store leaves ID mode
+    // a step that stores does not change ID mode
     if memory::stores(store) {
         return 0;
     }

@@ -13,6 +13,7 @@ use Rattle.cart.proofs.Reached.{usable-states}
 use Rattle.cart.proofs.Restore.{state-bytes}
 use Rattle.cart.proofs.Flag.{flag-kept}
 use Rattle.cart.proofs.Parts.{part-kept}
+use Rattle.cart.proofs.Counts.{counts}
 use Rattle.cart.proofs.Cases.{cases-hold}
 use Rattle.cart.proofs.CutRuns.{cut-runs}
 use Rattle.cart.proofs.Resume.{resumes}
@@ -54,6 +55,7 @@ claims =
         cases = cases-hold;
         flagKept = flag-kept;
         partKept = part-kept;
+        counts = counts;
         thinCall = thin-call;
         recordAndBytes = record-and-bytes;
         largestKept = largest-kept;

@@ -16,6 +16,7 @@ use Rattle.eeprom.specs.Gbatek.{SerialChipClaim, OpcodeLost, Abandons}
 use Rattle.cart.specs.declared.ChipRecord.{ChipRecord}
 use Rattle.cart.specs.Gbatek.{SramClaim, FlashClaim, SerialBitsClaim, SerialClaim, UsableStates}
 use Rattle.cart.specs.Claims.{StateBytes, FlagKept, PartKept}
+use Rattle.cart.specs.Counts.{Counts}
 use Rattle.cart.specs.Cases.{Cases}
 use Rattle.cart.specs.Cut.{CutRuns}
 use Rattle.cart.specs.Resume.{Resumes}
@@ -59,6 +60,7 @@ pub record Others : Type 0 where
   pub cases : Cases
   pub flagKept : FlagKept
   pub partKept : PartKept
+  pub counts : Counts
   pub thinCall : (len : ℕ) (kind : SaveType) (part : Part) (dirty : Bool) (chip : ChipRecord) (m : List ℕ) (v : ℕ)
       → ThinCall len kind part dirty chip m v
   pub recordAndBytes : RecordAndBytes

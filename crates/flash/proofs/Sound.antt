@@ -63,7 +63,7 @@ fits-way n k e g h byte = h
 fits-way n k e g h sector = omega arith
 fits-way n k e g h chip = omega arith
 
--- a step that stores leaves ID mode
+-- a step that stores does not change ID mode
 pub id-way : {f : Flash} {p v : ℕ} {t : FlashStep} → Way f p v t → stores (t .store) ≡ true → t .flash .id ≡ f .id
 id-way (state s a) h = refl
 id-way (id on) h = let z : _≡_ {A = Bool} false true = h in cc

@@ -54,7 +54,7 @@ differing-append [] b (y ∷ c) d e = absurd (omega arith)
 differing-append (x ∷ a) b [] d e = absurd (omega arith)
 differing-append (x ∷ a) b (y ∷ c) d e = omega (arith, differing-append a b c d (omega arith))
 
--- a memory as what lies before a part, the part, and what lies behind it
+-- a memory as what lies before a part, the part, and what lies after it
 parts : (m : List ℕ) (a n : ℕ) → take a m ++ (take n (drop a m) ++ drop (a + n) m) ≡ m
 parts m a n = rw (← drop-drop n a m, take-append-drop n (drop a m), take-append-drop a m)
 
@@ -78,7 +78,7 @@ count-is e = ap (λ (q : ℕ × List ℕ). q .0) e
 pub memory-is : {n : ℕ} {l : List ℕ} {p : ℕ × List ℕ} → (n, l) ≡ p → l ≡ p .1
 memory-is e = ap (λ (q : ℕ × List ℕ). q .1) e
 
--- the answer of a leaf to which a part from the middle was lent, up to place e, is the memory's
+-- the answer of a leaf that is passed the part from place a to place e is the memory's
 pub part-counted : (m : List ℕ) (a e : ℕ) (zs : List ℕ) → e ≡ a + length zs → e ≤ length m
     → {n : ℕ} {ys : List ℕ} → (n, ys) ≡ withCount (take (e - a) (drop a m)) zs
     → (n, take a m ++ (ys ++ drop (e - a) (drop a m))) ≡ withCount m (withPart m a zs)

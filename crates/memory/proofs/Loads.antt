@@ -47,14 +47,14 @@ filled-short m f h {held} {rest} p q =
     let e : length held - length f ≡ length m - length f = omega (arith, l) in
     rw (into-front f m p, drop-of-length-le (drop (length f) held) d, append-nil rest, q, length-rest (length f) held, e, take-all (length m) f h)
 
--- the front of a memory replaced by ys, and what lies behind it
+-- the front of a memory replaced by ys, and what lies after it
 abbrev held : List ℕ → List ℕ → List ℕ → List ℕ
 held m f ys = ys ++ drop (length f) m
 
 abbrev behind : List ℕ → List ℕ → List ℕ → List ℕ
 behind m f ys = take (length (held m f ys) - length f) (drop (length f) (held m f ys))
 
--- the front replaced by the file, and what lies behind it erased: both answers together
+-- the front replaced by the file, and what lies after it erased: both answers together
 module _ (m f : List ℕ) (fits : length f ≤ length m) where
   held-is : {ys : List ℕ} → ys ≡ f → held m f ys ≡ into f m
   unfolding into

@@ -1,4 +1,4 @@
-// How many bytes a store will change, counted before it. A short part's counter is a byte, so that the compiler counts
+// How many bytes a store changes, by the bytes before it. A short part's counter is a byte, so that the compiler counts
 // sixteen bytes at a time.
 ghost use mathlib.Core.Path.{_≡_};
 ghost use Prim.Native.Nat.{_≤_};

@@ -39,7 +39,8 @@
 //! unwritten += cart.save_write(0x0E00_0010, 0x5A);
 //! unwritten += cart.save_write(0x0E00_0010, 0x5A); // the same byte again
 //! assert_eq!(unwritten, 1);
-//! if unwritten >= BUDGET && cart.take_save_dirty() {
+//! if unwritten >= BUDGET {
+//!     cart.take_save_dirty();
 //!     // Write out the file.
 //!     unwritten = 0;
 //! }

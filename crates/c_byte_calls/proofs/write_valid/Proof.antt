@@ -14,7 +14,7 @@ use Rattle.byte_step.proofs.Fits.{step-fits}
 use Rattle.cart.specs.ChipState.{bit}
 use Rattle.c_record.specs.Fields.{withId}
 use Rattle.c_record.proofs.FieldBytes.{id-byte, id-stays}
-use Rattle.c_byte_calls.proofs.ByteCalls.{write-no, write-yes, step-kept}
+use Rattle.c_byte_calls.proofs.ByteCalls.{write-no, write-yes, id-kept}
 use borrow.Author.Needs.{needs}
 use Rattle.c_byte_calls.proofs.write_valid.Statement.{statement}
 use Rattle.c_byte_calls.proofs.write_valid.Tie as tie
@@ -43,7 +43,7 @@ returns-2 c =
     let t = w .write-byte .result in
     let e = w .write-byte .ensures ∙ ap₂ (λ (x : SaveType) (y : Flash). writeStep x y (length m) (s .args .address) (s .args .value)) k f in
     write-yes r m (s .pre) (w .before .before .before .if1 .left ∙ w .before .before .before .before .memory-size .ensures ∙ ap memorySize k) (s .args .address) (s .args .value) (s .args .changed .now) t e
-    (c .before .before .before .before .before .before .before .put-flash .ensures ∙ id-stays r (s .pre) (t .sets) (t .flash) (step-kept r m (s .args .address) (s .args .value) t e (sym (c .before .stores .ensures) ∙ c .if2 .taken)))
+    (c .before .before .before .before .before .before .before .put-flash .ensures ∙ id-stays r (s .pre) (t .sets) (t .flash) (id-kept r m (s .args .address) (s .args .value) t e (sym (c .before .stores .ensures) ∙ c .if2 .taken)))
     (c .before .before .before .before .apply .ensures)
 
 put-bit-requires : tie.Need-put-bit-requires
