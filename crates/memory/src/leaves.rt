@@ -79,5 +79,6 @@ pub fn load(memory: &mut [u8], file: &[u8]) -> u32
     }
     let k = file.len();
     let front = replace(&mut memory[..k], file);
-    front + erase(&mut memory[k..])
+    let rest = erase(&mut memory[k..]);
+    front + rest
 }
