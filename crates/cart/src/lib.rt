@@ -21,7 +21,8 @@ pub use state_bytes::state_questions;
 ghost use mathlib.Core.Path.{_≡_};
 ghost use Rattle.cart.specs.ChipState.{bit as bit·spec};
 ghost use Rattle.cart.specs.Record.{freshChip, isLarge, freshCart};
-ghost use Rattle.cart.specs.Replies.{reply, done as done·spec, stored as stored·spec, refused, chipRecord, cartWith};
+ghost use Rattle.cart.specs.Replies.{reply, done as done·spec, stored as stored·spec, refused};
+ghost use Rattle.cart.specs.Replies.{chipRecord, cartWith};
 
 // The 18 bytes of `chip_state`.
 pub struct ChipRecord {

@@ -1,3 +1,4 @@
+-- `memory::count::differing_short` meets its contract. Assumes nothing.
 use mathlib.Core.Path.{_≡_}
 use Prim.Native.Nat.{_+_, _-_, _≤_}
 use native.Mathlib.Omega.{arith}
@@ -14,29 +15,11 @@ Inv-loop s t n₀ i₀ n i = (i ≤ length s) × (n + differing (drop i s) (drop
 abbrev μ-loop : tie.MeasureT-loop
 μ-loop s t n₀ i₀ n i = length s - i
 
-loop-holds : tie.Need-loop-holds Inv-loop μ-loop
-loop-holds c = search needs
-
-shared-slice-read-differs : tie.Need-shared-slice-read-differs Inv-loop μ-loop
-shared-slice-read-differs c = search needs
-
-shared-slice-read-differs-2 : tie.Need-shared-slice-read-differs-2 Inv-loop μ-loop
-shared-slice-read-differs-2 c = search needs
-
-differs-requires : tie.Need-differs-requires Inv-loop μ-loop
-differs-requires c κs = search needs
-
 add-n : tie.Need-add-n Inv-loop μ-loop
 add-n c =
     let a = c .before .before .before .before .before .before .before .args in
     let b = c .before .before .before .before .loop in
     omega (arith, differing-le (a .s .now) (a .t .now), differing-next (a .s .now) (a .t .now) (b .i) (omega arith) (omega arith))
-
-add-i : tie.Need-add-i Inv-loop μ-loop
-add-i c = search needs
-
-loop-less : tie.Need-loop-less Inv-loop μ-loop
-loop-less c = search needs
 
 loop-again : tie.Need-loop-again Inv-loop μ-loop
 loop-again c =
@@ -55,12 +38,12 @@ differing-short-spec =
     (tie.spec
     Inv-loop
     μ-loop
-    loop-holds
-    shared-slice-read-differs
-    shared-slice-read-differs-2
-    differs-requires
+    (λ c. search needs)
+    (λ c. search needs)
+    (λ c. search needs)
+    (λ c κs. search needs)
     add-n
-    add-i
-    loop-less
+    (λ c. search needs)
+    (λ c. search needs)
     loop-again
     returns)

@@ -1,5 +1,5 @@
+-- `memory::count::differs` meets its contract. Assumes nothing.
 use Rattle.lists.proofs.Bools.{tests}
-use borrow.Author.Needs.{needs}
 use Rattle.memory.proofs.count.differs.Statement.{statement}
 use Rattle.memory.proofs.count.differs.Tie as tie
 

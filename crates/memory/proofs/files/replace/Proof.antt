@@ -1,8 +1,7 @@
 -- `memory::files::replace` meets its contract. Assumes nothing.
-use mathlib.Core.Path.{_≡_, ap₂, _∙_}
+use mathlib.Core.Path.{ap₂, _∙_}
 use mathlib.Core.List.{List}
 use Prim.Native.Nat.{ℕ}
-use native.Mathlib.Omega.{arith}
 use Rattle.memory.proofs.Loads.{into-whole}
 use borrow.Author.Needs.{needs}
 use Rattle.memory.proofs.files.replace.Statement.{statement}

@@ -1,6 +1,5 @@
 -- `memory::leaves::put_byte` meets its contract. Assumes nothing.
 use mathlib.Core.Path.{sym, ap, _∙_}
-use mathlib.Core.List.{List}
 use Prim.Native.Nat.{ℕ}
 use lib.ListN.{set}
 use Rattle.memory.specs.Memory.{stored}

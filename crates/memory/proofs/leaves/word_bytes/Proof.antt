@@ -1,32 +1,9 @@
+-- `memory::leaves::word_bytes` meets its contract. Assumes nothing.
 use mathlib.Core.Path.{sym}
 use Rattle.memory.proofs.Memory.{word-bytes}
 use borrow.Author.Needs.{needs}
 use Rattle.memory.proofs.leaves.word_bytes.Statement.{statement}
 use Rattle.memory.proofs.leaves.word_bytes.Tie as tie
-
-cast-t4 : tie.Need-cast-t4
-cast-t4 c = search needs
-
-cast-t7 : tie.Need-cast-t7
-cast-t7 c = search needs
-
-cast-t10 : tie.Need-cast-t10
-cast-t10 c = search needs
-
-cast-t13 : tie.Need-cast-t13
-cast-t13 c = search needs
-
-cast-t16 : tie.Need-cast-t16
-cast-t16 c = search needs
-
-cast-t19 : tie.Need-cast-t19
-cast-t19 c = search needs
-
-cast-t22 : tie.Need-cast-t22
-cast-t22 c = search needs
-
-cast-t24 : tie.Need-cast-t24
-cast-t24 c = search needs
 
 returns : tie.Need-returns
 returns c = sym (word-bytes (c .args .word))
@@ -34,4 +11,13 @@ returns c = sym (word-bytes (c .args .word))
 pub word-bytes-spec : {M : Type 1} → statement M
 word-bytes-spec =
     tie.close
-    (tie.spec cast-t4 cast-t7 cast-t10 cast-t13 cast-t16 cast-t19 cast-t22 cast-t24 returns)
+    (tie.spec
+    (λ c. search needs)
+    (λ c. search needs)
+    (λ c. search needs)
+    (λ c. search needs)
+    (λ c. search needs)
+    (λ c. search needs)
+    (λ c. search needs)
+    (λ c. search needs)
+    returns)
