@@ -19,7 +19,7 @@ use Rattle.memory.proofs.Memory.{length-erased, length-word, length-blo
 differs-same : (x : ℕ) → differs x x ≡ 0
 differs-same x = rw (eq-eqb x x refl)
 
-pub differs-1 : (x y : ℕ) → differs x y ≤ 1
+differs-1 : (x y : ℕ) → differs x y ≤ 1
 differs-1 x y = either (λ (n : ℕ). n ≤ 1) (eqb x y) (omega arith) (omega arith)
 
 differs-0 : (x y : ℕ) → differs x y ≡ 0 → x ≡ y
@@ -59,7 +59,7 @@ parts : (m : List ℕ) (a n : ℕ) → take a m ++ (take n (drop a m) ++ drop (a
 parts m a n = rw (← drop-drop n a m, take-append-drop n (drop a m), take-append-drop a m)
 
 -- the places that a new part changes
-pub differing-part : (m : List ℕ) (a : ℕ) (ys : List ℕ) → a + length ys ≤ length m
+differing-part : (m : List ℕ) (a : ℕ) (ys : List ℕ) → a + length ys ≤ length m
     → differing m (withPart m a ys) ≡ differing (take (length ys) (drop a m)) ys
 unfolding withPart
 differing-part m a ys h =

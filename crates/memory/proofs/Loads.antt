@@ -38,7 +38,7 @@ length-into : (f m : List ℕ) → length f ≤ length m → length (into f m) �
 unfolding into
 length-into f m h = simp (length-append, length-drop) (omega arith)
 
-pub filled-short : (m f : List ℕ) → length f ≤ length m → {held rest : List ℕ} → held ≡ into f m → rest ≡ erased (length (take (length held - length f) (drop (length f) held)))
+filled-short : (m f : List ℕ) → length f ≤ length m → {held rest : List ℕ} → held ≡ into f m → rest ≡ erased (length (take (length held - length f) (drop (length f) held)))
     → take (length f) held ++ (rest ++ drop (length held - length f) (drop (length f) held)) ≡ filled (length m) f
 unfolding filled
 filled-short m f h {held} {rest} p q =
