@@ -2,11 +2,11 @@
  * gbasave.h: the backup chip of a Game Boy Advance cartridge (SRAM, flash, serial EEPROM), for console cores. For C11
  * and C++. The archive libgbasave.a is for x86-64 with the System V calling convention.
  *
- * WHAT IT IS. A set of calls that keep no state of their own. The image, the save memory and the record belong to the
- * caller, who passes them to each call. No call uses them after it has returned. The archive allocates nothing, opens
- * no file and has no variables of its own. A call takes a few KiB of stack at most. The archive needs three functions
- * from outside: memcpy, memmove and memset. It may call them with length 0, and then with any pointer, also NULL.
- * Every call ends.
+ * WHAT IT IS. A set of calls that keep no state of their own. The image, the save memory, the record and the matcher
+ * belong to the caller, who passes them to each call. No call uses them after it has returned. The archive allocates
+ * nothing, opens no file and has no variables of its own. A call takes a few KiB of stack at most. The archive needs
+ * three functions from outside: memcpy, memmove and memset. It may call them with length 0, and then with any pointer,
+ * also NULL. Every call ends.
  *
  * THE RECORD is 25 bytes. It holds all data of a cartridge except its image and its memory. It contains no pointer: it
  * may be copied, stored and moved like any other bytes. gbasave_from_bytes writes it.
@@ -20,6 +20,19 @@
  * A record is valid if each of its fields has an allowed value and its part fits its kind. 25 bytes that are not a
  * valid record do no harm: every call that reads a record refuses them with 2. The caller may read the fields, and may
  * set the changed flag to 0 or 1.
+ *
+ * THE MATCHER is 13 bytes. It holds what a search has seen of an image so far, so that a host can find the kind of an
+ * image that it reads in pieces. It contains no pointer: it may be copied, stored and moved like any other bytes.
+ * gbasave_matcher_start writes it.
+ *
+ *     byte  0      SRAM_V was seen, 0 or 1
+ *     byte  1      FLASH_V or FLASH512_V was seen, 0 or 1
+ *     byte  2      FLASH1M_V was seen, 0 or 1
+ *     byte  3      EEPROM_V was seen, 0 or 1
+ *     bytes 4-12   the last nine bytes fed, the newest first; 0 where there were none
+ *
+ * A matcher is valid if its first four bytes are each 0 or 1. 13 bytes that are not a valid matcher do no harm: every
+ * call that reads a matcher refuses them with 2. The caller may read the fields.
  *
  * KINDS.
  *
@@ -55,7 +68,7 @@
  * returned through out-parameters (uint32_t *). The questions are:
  *
  *      1   Is the image 192 to 33,554,432 bytes long?
- *      2   Is the record valid?
+ *      2   Is the record valid? (Some calls ask it about a matcher or about a kind's number; their comments say so.)
  *      3   Does the memory have its kind's length?
  *      4   Does the kind have an EEPROM?
  *      5   Are fewer than 6 bits of an address in, or is no address being received?
@@ -70,8 +83,9 @@
  *     14   Is the file's length one for this kind? (For kind NONE no length is.)
  *     15   Does the part have the kind's size? (The usual part fits every kind, a number above 5 none.)
  *
- * A REFUSED CALL CHANGES NOTHING: the record, the memory, the destination, the state and every out-parameter keep
- * their values. The one exception is gbasave_from_bytes: if it is refused it writes 25 zeros to the record.
+ * A REFUSED CALL CHANGES NOTHING: the record, the matcher, the memory, the destination, the state and every
+ * out-parameter keep their values. The one exception is gbasave_from_bytes: if it is refused it writes 25 zeros to the
+ * record.
  *
  * CHANGED BYTES. Four calls store: gbasave_save_write, gbasave_eeprom_write, gbasave_load_save and gbasave_import_save.
  * Each writes to *changed how many bytes of the memory have another value after the call than before it:
@@ -93,20 +107,22 @@
  * gbasave_chip_state the length is 18.)
  *   - No pointer is NULL, except that of a buffer whose length is 0. Such a pointer may be any pointer, also NULL, as
  *     an empty std::vector has it. Nothing is read or written through it.
- *   - No two of the objects passed to one call overlap: no two of record, image, memory, file, state, destination and
- *     out-parameters.
+ *   - No two of the objects passed to one call overlap: no two of record, matcher, image, header, piece, memory, file,
+ *     state, destination and out-parameters.
  *   - A buffer is as long as its length says, and it can be written to if its pointer is not to const.
  *   - While the call runs, nothing else writes to the objects passed to it, or reads one that the call writes to.
  * Only out-parameters need an alignment, that of uint32_t. The calls check everything else: a buffer may hold any
  * bytes, and any length and any number may be passed.
  *
- * THREADS. Calls share nothing. Any number of threads may call at the same time, each with its own record and memory.
- * They may all pass the same image.
+ * THREADS. Calls share nothing. Any number of threads may call at the same time, each with its own record and memory,
+ * or its own matcher. They may all pass the same image.
  *
- * TIME. gbasave_from_bytes, gbasave_detect_save_type, gbasave_save_fit, gbasave_save_size and gbasave_rom_crc read the
- * image, gbasave_crc_feed its piece. gbasave_load_save, gbasave_import_save, gbasave_save_data and the erasing of a
- * flash chip go through the memory, the erasing of a sector through its 4,096 bytes. The time of every other call does
- * not grow with the size of either.
+ * TIME. gbasave_from_bytes, gbasave_detect_save_type, gbasave_search, gbasave_save_fit and gbasave_save_size search the
+ * image. They go through it at most once, from the front, and no further than the first SRAM_V; not at all if the game
+ * code decides. gbasave_rom_crc goes through the whole image, gbasave_crc_feed through its piece, gbasave_matcher_feed
+ * through its piece up to the first SRAM_V. gbasave_load_save, gbasave_import_save, gbasave_save_data and the erasing
+ * of a flash chip go through the memory, the erasing of a sector through its 4,096 bytes. The time of every other call
+ * does not grow with the size of any of these.
  *
  * TO PLAY.
  *   1. Compare gbasave_version() with GBASAVE_VERSION_NUMBER. If they differ, the archive belongs to another header.
@@ -172,13 +188,15 @@ extern "C" {
 #endif
 
 /* The version of this header and of its archive, as a text and as a number: major * 10000 + minor * 100 + patch. */
-#define GBASAVE_VERSION "0.4.0"
-#define GBASAVE_VERSION_NUMBER 400
+#define GBASAVE_VERSION "0.5.0"
+#define GBASAVE_VERSION_NUMBER 500
 
 /* Sizes in bytes. */
 #define GBASAVE_RECORD_SIZE 25
+#define GBASAVE_MATCHER_SIZE 13
 #define GBASAVE_STATE_SIZE 18
-#define GBASAVE_TITLE_SIZE 36 /* the longest title */
+#define GBASAVE_TITLE_SIZE 36   /* the longest title */
+#define GBASAVE_HEADER_SIZE 192 /* the image's first bytes, which gbasave_matcher_finish takes */
 #define GBASAVE_IMAGE_MIN 192
 #define GBASAVE_IMAGE_MAX 33554432
 
@@ -234,7 +252,7 @@ static inline const char *gbasave_refusal_text(uint32_t answer)
     switch (answer) {
     case GBASAVE_ACCEPTED: return "accepted";
     case GBASAVE_REFUSED_IMAGE_LENGTH: return "the image's length is not allowed";
-    case GBASAVE_REFUSED_RECORD: return "this is no cartridge record";
+    case GBASAVE_REFUSED_RECORD: return "this is no valid record, matcher or kind";
     case GBASAVE_REFUSED_MEMORY_LENGTH: return "the save memory does not have its kind's length";
     case GBASAVE_REFUSED_NO_EEPROM: return "the cartridge has no EEPROM";
     case GBASAVE_REFUSED_DMA_TOO_LATE: return "the DMA length comes too late in an address";
@@ -278,12 +296,17 @@ typedef struct gbasave_record {
 #define GBASAVE_RECORD_CHIP 6
 #define GBASAVE_RECORD_PART 24
 
+/* A matcher. The struct gives it a type of its own; the calls take a pointer to the 13 bytes. */
+typedef struct gbasave_matcher {
+    uint8_t bytes[GBASAVE_MATCHER_SIZE];
+} gbasave_matcher;
+
 /*
  * The comment of each call says what the call does, and then:
  *   Asks:    the numbers of its questions, in the order in which it asks them. "1 (lower bound)" is question 1 without
  *            its upper bound: does the image have at least 192 bytes?
  *   Writes:  what it writes to out-parameters and to destinations.
- *   Changes: what it changes in the record and in the memory. A call without this line changes neither.
+ *   Changes: what it changes in the record, in the matcher and in the memory. A call without this line changes none.
  * A call writes and changes nothing else.
  */
 
@@ -307,6 +330,16 @@ uint32_t gbasave_version(void);
  *   Writes:  *kind, 0 to 5.
  */
 uint32_t gbasave_detect_save_type(const uint8_t *image, size_t image_length, uint32_t *kind);
+
+/*
+ * Finds the kind of an image, as gbasave_detect_save_type does, and tells how far it had to look for it. The search
+ * hands the image's bytes to a matcher, from the front and each at most once. The kind depends only on the image's
+ * first 192 bytes, on its length and on the matcher after the bytes handed over.
+ *   Asks:    1
+ *   Writes:  *kind, 0 to 5. *handed: how many bytes were handed over. 0 if the game code decides; otherwise, if SRAM_V
+ *            occurs, the offset just after the first one; otherwise the image's length.
+ */
+uint32_t gbasave_search(const uint8_t *image, size_t image_length, uint32_t *kind, uint32_t *handed);
 
 /*
  * Gets the size of the save memory of the image's kind: the length of the memory to pass to gbasave_from_bytes. It is
@@ -389,6 +422,55 @@ uint32_t gbasave_rom_crc(const uint8_t *image, size_t image_length, uint32_t *va
 uint32_t gbasave_crc_start(uint32_t *crc);
 uint32_t gbasave_crc_feed(uint32_t *crc, const uint8_t *piece, size_t piece_length);
 uint32_t gbasave_crc_finish(uint32_t *crc);
+
+/*
+ * Find the kind of an image that the host reads in pieces, as from a card, without holding the image. The matcher is
+ * passed from call to call. The same pieces may also be fed to the CRC:
+ *
+ *     gbasave_matcher_start(&matcher);
+ *     gbasave_crc_start(&crc);
+ *     while ((piece_length = next_piece(piece)) != 0) {
+ *         gbasave_matcher_feed(&matcher, piece, piece_length, &done);
+ *         gbasave_crc_feed(&crc, piece, piece_length);
+ *     }
+ *     gbasave_crc_finish(&crc);
+ *     gbasave_matcher_finish(&matcher, header, GBASAVE_HEADER_SIZE, image_length, &kind);
+ *
+ * The pieces are fed in the image's order, none twice and none left out. A piece may have any length; one of 0 bytes
+ * changes nothing. Once *done is 1, the matcher needs no more pieces, and feeding more changes nothing. A host that
+ * wants only the kind may then stop reading, as soon as it has the header; a host that also wants the CRC reads on. The
+ * header is the image's first 192 bytes, which the host keeps. It is proved that, however the image is cut into pieces,
+ * *kind is what gbasave_detect_save_type writes for the whole image. Opening still takes the whole image.
+ */
+
+/*
+ * Begins a search: no byte has been fed.
+ *   Asks:    nothing, and returns 0.
+ *   Changes: matcher, whatever it held before: it becomes 13 zeros.
+ */
+uint32_t gbasave_matcher_start(gbasave_matcher *matcher);
+
+/*
+ * Takes the next piece: hands its bytes to the matcher, from the front, until SRAM_V has been seen.
+ *   Asks:    2, about the matcher: are its first four bytes each 0 or 1?
+ *   Writes:  *done: 1 if SRAM_V has been seen in the bytes fed so far, also in an earlier piece or over the boundary of
+ *            two. Otherwise 0.
+ *   Changes: matcher, by the bytes handed over.
+ *   Time:    It grows with the number of bytes handed over. In a piece, 32 bytes without _V are passed over at once. So
+ *            per byte it is least if the pieces are much longer than 32 bytes.
+ */
+uint32_t gbasave_matcher_feed(gbasave_matcher *matcher, const uint8_t *piece, size_t piece_length, uint32_t *done);
+
+/*
+ * Gets the kind of the image whose pieces were fed. Of a longer header only the first 192 bytes count. The matcher
+ * keeps its bytes, and may be fed more pieces.
+ *   Asks:    1, about image_length and about the header: is image_length 192 to 33,554,432, and has the header at least
+ *            192 bytes? Then 2, about the matcher, as gbasave_matcher_feed does. No call sees the whole image, so the
+ *            host itself ensures that image_length is the whole image's length, also if it stopped reading before.
+ *   Writes:  *kind, 0 to 5.
+ */
+uint32_t gbasave_matcher_finish(const gbasave_matcher *matcher, const uint8_t *header, size_t header_length,
+                                size_t image_length, uint32_t *kind);
 
 /* ---- Opening ----------------------------------------------------------------------------------------------------- */
 

@@ -1,7 +1,8 @@
 /*
  * A small host. It opens images, saves on every chip, takes states in the middle of an 81-bit write and resumes them in a
  * fresh cartridge and in the open one. It gives a game the flash chip that the game looks for. It writes the file out when
- * enough bytes have changed. It checks every answer; a wrong one ends the program with status 1.
+ * enough bytes have changed. It finds the kind of images that it reads in blocks. It checks every answer; a wrong one ends
+ * the program with status 1.
  *
  *     host           runs the examples below, on images that the program makes
  *     host IMAGE     prints what is found in an image file
@@ -10,6 +11,7 @@
 #include "check.h"
 #include "game.h"
 #include "parts.h"
+#include "pieces.h"
 #include "refusals.h"
 #include "states.h"
 
@@ -29,17 +31,6 @@ static void check_version(void)
     printf("gbasave: the header and the archive have the same version\n");
 }
 
-/* The CRC of an image that is read 512 bytes at a time, as from a card. */
-static uint32_t crc_in_pieces(const uint8_t *image, size_t length)
-{
-    uint32_t crc;
-    accepted("CRC, start", gbasave_crc_start(&crc));
-    for (size_t at = 0; at < length; at += 512)
-        accepted("CRC, piece", gbasave_crc_feed(&crc, image + at, length - at < 512 ? length - at : 512));
-    accepted("CRC, finish", gbasave_crc_finish(&crc));
-    return crc;
-}
-
 static void describe(const uint8_t *image, size_t length)
 {
     uint8_t title[GBASAVE_TITLE_SIZE];
@@ -50,8 +41,9 @@ static void describe(const uint8_t *image, size_t length)
     accepted("read", gbasave_read32(image, length, (uint32_t)length - 1, &last));
     expect("past the image's last byte are zeros", last == image[length - 1]);
     accepted("CRC", gbasave_rom_crc(image, length, &crc));
-    expect("the CRC is the same in pieces", crc_in_pieces(image, length) == crc);
     accepted("kind", gbasave_detect_save_type(image, length, &kind));
+    const identity in_blocks = identify_in_blocks(image, length);
+    expect("kind and CRC are the same in blocks", in_blocks.kind == kind && in_blocks.image_crc == crc);
     accepted("memory", gbasave_memory_size(kind, &size));
     printf("Image \"%.*s\", %zu bytes, CRC %08" PRIX32 ", header check %02" PRIX32 ", %s\n", (int)title_length, (char *)title,
            length, crc, check, check == there ? "as in the header" : "but the header has another value");
@@ -238,6 +230,7 @@ int main(int argc, char **argv)
     state_story();
     part_story();
     budget_story();
+    piece_story();
     refusals();
     empty_slices();
     return 0;

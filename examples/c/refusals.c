@@ -49,7 +49,7 @@ static void image_refused(void)
     uint8_t image[GBASAVE_IMAGE_MIN - 1] = {0}, memory[1] = {0x5A};
     gbasave_record record;
     const gbasave_record zeros = {{0}};
-    uint32_t kind = UNTOUCHED;
+    uint32_t kind = UNTOUCHED, handed = UNTOUCHED;
     memset(&record, 0xEE, sizeof record);
     shown(GBASAVE_REFUSED_IMAGE_LENGTH, "an image of 191 bytes",
           gbasave_from_bytes(&record, image, sizeof image, GBASAVE_PART_USUAL, memory, 0));
@@ -57,6 +57,9 @@ static void image_refused(void)
     expect("a refused opening does not change the memory", memory[0] == 0x5A);
     expect("its kind is refused too",
            gbasave_detect_save_type(image, sizeof image, &kind) == GBASAVE_REFUSED_IMAGE_LENGTH && kind == UNTOUCHED);
+    expect("and so is its search",
+           gbasave_search(image, sizeof image, &kind, &handed) == GBASAVE_REFUSED_IMAGE_LENGTH && kind == UNTOUCHED &&
+               handed == UNTOUCHED);
 }
 
 static void record_refused(void)
@@ -187,10 +190,16 @@ static void empty_at(uint8_t *nowhere)
 {
     uint8_t *image = make_image("NO CHIP", "");
     gbasave_record record;
+    gbasave_matcher matcher;
     uint32_t value, changed;
     expect("no image", gbasave_from_bytes(&record, nowhere, 0, GBASAVE_PART_USUAL, nowhere, 0) == GBASAVE_REFUSED_IMAGE_LENGTH);
     accepted("size of no image", gbasave_save_size(nowhere, 0, &value));
     expect("no image has no memory", value == 0);
+    expect("search of no image", gbasave_search(nowhere, 0, &value, &changed) == GBASAVE_REFUSED_IMAGE_LENGTH);
+    accepted("matcher, start", gbasave_matcher_start(&matcher));
+    accepted("matcher, no piece", gbasave_matcher_feed(&matcher, nowhere, 0, &value));
+    expect("no marker is seen", value == 0);
+    expect("no header", gbasave_matcher_finish(&matcher, nowhere, 0, IMAGE_LENGTH, &value) == GBASAVE_REFUSED_IMAGE_LENGTH);
 
     accepted("opening", gbasave_from_bytes(&record, image, IMAGE_LENGTH, GBASAVE_PART_USUAL, nowhere, 0));
     expect("no chip", record.bytes[GBASAVE_RECORD_KIND] == GBASAVE_KIND_NONE);

@@ -6,6 +6,7 @@
 #include <algorithm>
 #include <cstdio>
 #include <cstdlib>
+#include <iterator>
 #include <string>
 #include <vector>
 
@@ -30,17 +31,18 @@ static void no_image()
 {
     bytes image, memory;
     gbasave_record record;
-    std::uint32_t value = 7;
+    std::uint32_t value = 7, handed = 7;
     expect("opening no image", gbasave_from_bytes(&record, image.data(), 0, GBASAVE_PART_USUAL, memory.data(), 0) ==
                                    GBASAVE_REFUSED_IMAGE_LENGTH);
     expect("kind of no image", gbasave_detect_save_type(image.data(), 0, &value) == GBASAVE_REFUSED_IMAGE_LENGTH);
+    expect("search of no image", gbasave_search(image.data(), 0, &value, &handed) == GBASAVE_REFUSED_IMAGE_LENGTH);
     expect("CRC of no image", gbasave_rom_crc(image.data(), 0, &value) == GBASAVE_REFUSED_IMAGE_LENGTH);
     expect("header check of no image", gbasave_header_checksum(image.data(), 0, &value) == GBASAVE_REFUSED_IMAGE_LENGTH);
     expect("byte of no image", gbasave_read(image.data(), 0, 0, &value) == GBASAVE_REFUSED_IMAGE_LENGTH);
     expect("two bytes of no image", gbasave_read16(image.data(), 0, 0, &value) == GBASAVE_REFUSED_IMAGE_LENGTH);
     expect("four bytes of no image", gbasave_read32(image.data(), 0, 0, &value) == GBASAVE_REFUSED_IMAGE_LENGTH);
     expect("title of no image", gbasave_title(image.data(), 0, memory.data(), 0, &value) == GBASAVE_REFUSED_IMAGE_LENGTH);
-    expect("a refused call writes no value", value == 7);
+    expect("a refused call writes no value", value == 7 && handed == 7);
     expect("size for no image", gbasave_save_size(image.data(), 0, &value) == 0 && value == 0);
     expect("no file fits no image", gbasave_save_fit(image.data(), 0, 32768, &value) == 0 && value == 0);
     std::puts("an empty image: refused, 1; no memory, no file");
@@ -80,6 +82,32 @@ static void no_piece()
     expect("an empty piece changes nothing", gbasave_crc_feed(&crc, piece.data(), piece.size()) == 0 && crc == before);
     expect("CRC of no bytes", gbasave_crc_finish(&crc) == 0 && crc == 0);
     std::puts("an empty piece of an image: the CRC goes on from where it was");
+}
+
+// Empty pieces before and after each half of a marker, then an empty header.
+static void no_piece_and_no_header()
+{
+    const bytes image = image_with("FLASH1M_V");
+    bytes nothing;
+    gbasave_matcher matcher;
+    std::uint32_t done = 7, kind = 7;
+    const auto feed = [&](const std::uint8_t *piece, std::size_t length) {
+        expect("piece", gbasave_matcher_feed(&matcher, piece, length, &done) == 0 && done == 0);
+    };
+    expect("matcher, start", gbasave_matcher_start(&matcher) == 0);
+    feed(nothing.data(), 0);
+    feed(image.data(), 516);
+    const gbasave_matcher before = matcher;
+    feed(nothing.data(), 0);
+    expect("an empty piece changes nothing", std::equal(matcher.bytes, std::end(matcher.bytes), before.bytes));
+    feed(image.data() + 516, image.size() - 516);
+    feed(nothing.data(), 0);
+    expect("an empty header",
+           gbasave_matcher_finish(&matcher, nothing.data(), 0, image.size(), &kind) == GBASAVE_REFUSED_IMAGE_LENGTH);
+    expect("a refused call writes no kind", kind == 7);
+    expect("the kind", gbasave_matcher_finish(&matcher, image.data(), image.size(), image.size(), &kind) == 0 &&
+                           kind == GBASAVE_KIND_FLASH128);
+    std::puts("an empty piece of an image: the matcher goes on from where it was; an empty header: refused, 1");
 }
 
 // The end of a replay is the file's status and length, and the state with its status: of a fresh kind NONE all 0.
@@ -142,6 +170,7 @@ int main()
     for (const char *marker : {"SRAM_V", "FLASH_V", "FLASH1M_V", "EEPROM_V"})
         no_file(marker);
     no_piece();
+    no_piece_and_no_header();
     no_list();
     return 0;
 }

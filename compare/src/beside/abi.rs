@@ -4,6 +4,9 @@
 pub const RECORD_SIZE: usize = 25;
 pub type Record = [u8; RECORD_SIZE];
 
+pub const MATCHER_SIZE: usize = 13;
+pub type Matcher = [u8; MATCHER_SIZE];
+
 /// The chip record's place in the record, and the part's. (A part is a maker's flash chip here.)
 pub const CHIP: std::ops::Range<usize> = 6..24;
 pub const PART: usize = 24;
@@ -79,6 +82,16 @@ extern "C" {
     pub fn gbasave_crc_feed(crc: &mut u32, piece: *const u8, piece_len: usize) -> u32;
     pub fn gbasave_crc_finish(crc: &mut u32) -> u32;
     pub fn gbasave_detect_save_type(image: *const u8, image_len: usize, kind: &mut u32) -> u32;
+    pub fn gbasave_search(image: *const u8, image_len: usize, kind: &mut u32, handed: &mut u32) -> u32;
+    pub fn gbasave_matcher_start(matcher: &mut Matcher) -> u32;
+    pub fn gbasave_matcher_feed(matcher: &mut Matcher, piece: *const u8, piece_len: usize, done: &mut u32) -> u32;
+    pub fn gbasave_matcher_finish(
+        matcher: &Matcher,
+        header: *const u8,
+        header_len: usize,
+        image_len: usize,
+        kind: &mut u32,
+    ) -> u32;
     pub fn gbasave_save_fit(image: *const u8, image_len: usize, length: usize, kept: &mut u32) -> u32;
     pub fn gbasave_save_size(image: *const u8, image_len: usize, size: &mut u32) -> u32;
     pub fn gbasave_memory_size(kind: u32, size: &mut u32) -> u32;

@@ -1,6 +1,7 @@
 //! What is asked of an image alone, and opening.
 
 mod crcs;
+mod searches;
 
 use crate::abi::{RECORD_SIZE, USUAL_PART};
 use crate::part::Part;
@@ -19,8 +20,9 @@ const TEXT_IMAGES: usize = 20_000;
 const TITLES: usize = 1_000_000;
 
 pub fn compare(run: &mut Run) {
-    let before = (run.calls, run.seconds());
     let random = &mut Random::new(run.seed);
+    searches::compare(run, random);
+    let before = (run.calls, run.seconds());
     short_images(run);
     texts(run, random);
     titles(run, random);
@@ -37,6 +39,7 @@ fn short_images(run: &mut Run) {
         let image = image(length, 7, 0, b"SRAM_V");
         opening(run, &image);
         sizes(run, &image, &LENGTHS);
+        searches::refused(run, &image);
     }
 }
 
@@ -91,6 +94,7 @@ fn large_images(run: &mut Run, random: &mut Random) {
                 opening(run, &image);
                 header(run, &image);
                 sizes(run, &image, &[8192]);
+                searches::refused(run, &image);
             } else {
                 whole(run, random, &image, 8192);
             }
@@ -103,7 +107,7 @@ fn whole(run: &mut Run, random: &mut Random, image: &[u8], file: u32) {
     header(run, image);
     sizes(run, image, &[file]);
     reads(run, random, image);
-    same(run, "detect_save_type", rust::detect_save_type(image).into(), part::detect_save_type(image));
+    searches::search(run, random, image);
     same(run, "rom_crc", rust::crc32(image), part::rom_crc(image));
 }
 
@@ -178,6 +182,18 @@ fn reads(run: &mut Run, random: &mut Random, image: &[u8]) {
             same(run, "read32", rust::read32(&cart, address), part::read32(image, address));
         }
     }
+}
+
+/// Pieces of at most so many bytes, empty ones among them.
+fn cut<'a>(random: &mut Random, mut bytes: &'a [u8], longest: usize) -> Vec<&'a [u8]> {
+    let mut pieces = Vec::new();
+    while !bytes.is_empty() {
+        let length = random.below(longest as u64 + 1) as usize;
+        let (piece, rest) = bytes.split_at(length.min(bytes.len()));
+        pieces.push(piece);
+        bytes = rest;
+    }
+    pieces
 }
 
 fn same(run: &mut Run, call: &str, expected: u32, answer: Answer) {

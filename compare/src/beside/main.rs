@@ -18,7 +18,7 @@ use compare::kind;
 use pair::Pair;
 use run::{Fault, Run};
 
-const USAGE: &str = "usage: beside [--seed HEX] [--fault rust | part | replay | count]
+const USAGE: &str = "usage: beside [--seed HEX] [--fault rust | part | replay | count | pieces | handed]
        beside bench WORDS LINK... [--before LINK...]
        beside rows WORDS";
 
@@ -37,9 +37,11 @@ extern "C" fn main() -> i32 {
 
 fn beside(mut run: Run) {
     println!("beside: seed {:X}", run.seed);
-    for kind in kind::ALL {
-        cartridges(&mut run, kind);
-        cuts::compare(&mut run, kind);
+    if !run.fault.is_of_searches() {
+        for kind in kind::ALL {
+            cartridges(&mut run, kind);
+            cuts::compare(&mut run, kind);
+        }
     }
     images::compare(&mut run);
     run.clear_line();
@@ -55,6 +57,8 @@ fn arguments(words: &[&str]) -> Run {
             ["--fault", "part"] => fault = Fault::Part,
             ["--fault", "replay"] => fault = Fault::Replay,
             ["--fault", "count"] => fault = Fault::Count,
+            ["--fault", "pieces"] => fault = Fault::Pieces,
+            ["--fault", "handed"] => fault = Fault::Handed,
             _ => usage(),
         }
     }

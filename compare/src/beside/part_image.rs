@@ -1,6 +1,6 @@
 //! The part's calls on an image or a kind alone.
 
-use crate::abi::*;
+use crate::abi::{self, *};
 use crate::part::answer;
 use crate::side::Answer;
 use compare::kind::Kind;
@@ -43,6 +43,37 @@ pub fn crc_of_pieces<'a>(pieces: impl IntoIterator<Item = &'a [u8]>) -> Answer {
 
 pub fn detect_save_type(image: &[u8]) -> Answer {
     answer(|kind| unsafe { gbasave_detect_save_type(image.as_ptr(), image.len(), kind) })
+}
+
+/// The kind, and how many bytes were handed to the matcher.
+pub fn search(image: &[u8]) -> (Answer, Answer) {
+    let mut kind = Answer::refusal(0);
+    let handed = answer(|handed| {
+        kind = answer(|kind| unsafe { gbasave_search(image.as_ptr(), image.len(), kind, handed) });
+        kind.refusal
+    });
+    (kind, handed)
+}
+
+/// A search in pieces.
+pub struct Matcher(pub abi::Matcher);
+
+impl Matcher {
+    /// The bytes before are none of a matcher.
+    pub fn start() -> Self {
+        let mut bytes = [0xEE; MATCHER_SIZE];
+        let refusal = unsafe { gbasave_matcher_start(&mut bytes) };
+        assert_eq!(refusal, 0, "a start asks nothing");
+        Self(bytes)
+    }
+
+    pub fn feed(&mut self, piece: &[u8]) -> Answer {
+        answer(|done| unsafe { gbasave_matcher_feed(&mut self.0, piece.as_ptr(), piece.len(), done) })
+    }
+
+    pub fn finish(&self, header: &[u8], image_length: usize) -> Answer {
+        answer(|kind| unsafe { gbasave_matcher_finish(&self.0, header.as_ptr(), header.len(), image_length, kind) })
+    }
 }
 
 pub fn save_fit(image: &[u8], length: usize) -> Answer {

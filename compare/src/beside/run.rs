@@ -14,6 +14,17 @@ pub enum Fault {
     Replay,
     /// A byte that is stored in SRAM counts as changed, also if it was there already.
     Count,
+    /// The part's matcher forgets the last bytes between two pieces.
+    Pieces,
+    /// The whole image is handed to the matcher, also if there is an SRAM_V in it.
+    Handed,
+}
+
+impl Fault {
+    /// Whether a search of an image has the fault. No cartridge has it then.
+    pub fn is_of_searches(self) -> bool {
+        matches!(self, Self::Pieces | Self::Handed)
+    }
 }
 
 pub struct Run {

@@ -7,7 +7,7 @@ use lib.Dec.{eqb}
 use native.Mathlib.Omega.{arith}
 use lib.ListN.{getD, set}
 use lib.Seq.{set-getD}
-use Rattle.lists.specs.Lists.{lowFirst}
+use Rattle.lists.specs.Lists.{lowFirst, bit}
 use Rattle.lists.proofs.Digits.{low-bytes}
 use Rattle.kind.specs.Kind.{kindNumber}
 use Rattle.part.specs.Part.{partNumber}
@@ -15,7 +15,7 @@ use Rattle.flash.specs.declared.Flash.{Flash}
 use Rattle.eeprom.specs.declared.Eeprom.{Eeprom}
 use Rattle.eeprom.specs.Eeprom.{told, serial, ended}
 use Rattle.cart.specs.declared.Cartridge.{Cartridge}
-use Rattle.cart.specs.ChipState.{bit, phaseNumber, chipBytes, chipOf}
+use Rattle.cart.specs.ChipState.{phaseNumber, chipBytes, chipOf}
 use Rattle.cart.specs.Replies.{chipRecord, cartWith}
 use Rattle.c_record.specs.RecordBytes.{recordBytes, cartOf, Valid}
 use Rattle.c_record.specs.Fields.{withFlash, withId, withWidth, withLarge, withShift, withPlace, withEnded, withSerial}

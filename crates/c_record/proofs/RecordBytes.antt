@@ -10,9 +10,9 @@ use lib.ListN.{length, getD, take, drop, replicate, length-drop, length-take, ta
 use lib.Pow.{areBytes}
 use lib.Seq.{drop-cons, drop-drop, take-all, getD-take, getD-drop}
 use borrow.Author.Tests.{leb-true, eqb-true, eqb-false, lt-ltb, lt-leb, le-leb}
-use Rattle.lists.specs.Lists.{lowFirst, lowValue}
+use Rattle.lists.specs.Lists.{lowFirst, lowValue, bit}
 use Rattle.lists.specs.Questions.{asked}
-use Rattle.lists.proofs.Bools.{split, and-left, and-right}
+use Rattle.lists.proofs.Bools.{split, and-left, and-right, bit-le, bit-back}
 use Rattle.lists.proofs.Digits.{low-back, low-forth, low-at, bytes-drop, bytes-take}
 use Rattle.lists.proofs.Parts.{spelled, spells}
 use Rattle.image.specs.Image.{imageLength}
@@ -24,9 +24,9 @@ use Rattle.part.specs.Part.{partNumber, partOf, partFits, numberFits}
 use Rattle.part.proofs.Numbers.{part-le, part-back, part-forth}
 use Rattle.cart.specs.declared.ChipRecord.{ChipRecord}
 use Rattle.cart.specs.declared.Cartridge.{Cartridge}
-use Rattle.cart.specs.ChipState.{bit, chipBytes, chipOf, fieldQuestions}
+use Rattle.cart.specs.ChipState.{chipBytes, chipOf, fieldQuestions}
 use Rattle.cart.specs.Record.{recordAllowed, freshCart}
-use Rattle.cart.proofs.ChipState.{bit-le, bit-back, own-size, chip-back, bytes-back}
+use Rattle.cart.proofs.ChipState.{own-size, chip-back, bytes-back}
 use Rattle.c_record.specs.RecordBytes.{recordBytes, chipIn, cartOf, isRecord, Valid}
 use Rattle.c_record.specs.Claims.{RecordAndBytes}
 

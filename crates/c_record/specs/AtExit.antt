@@ -6,7 +6,7 @@ use Prim.Native.Nat.{ℕ}
 use Rattle.image.specs.declared.Answer.{Answer}
 use Rattle.out_params.specs.Places.{placed, answeredAt, told}
 use Rattle.cart.specs.declared.Cartridge.{Cartridge}
-use Rattle.cart.specs.ChipState.{bit}
+use Rattle.lists.specs.Lists.{bit}
 use Rattle.cart.specs.Record.{State, Outcome}
 use Rattle.cart.specs.Replies.{first}
 use Rattle.c_record.specs.RecordBytes.{recordBytes, cartOf, isRecord, stateOf}

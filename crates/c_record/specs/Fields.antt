@@ -5,7 +5,8 @@ use Prim.Native.Nat.{ℕ, _/_, _%_, _^_}
 use lib.ListN.{getD, set}
 use Rattle.flash.specs.declared.Flash.{Flash}
 use Rattle.eeprom.specs.declared.Eeprom.{Eeprom}
-use Rattle.cart.specs.ChipState.{bit, phaseNumber}
+use Rattle.lists.specs.Lists.{bit}
+use Rattle.cart.specs.ChipState.{phaseNumber}
 use Rattle.c_record.specs.RecordBytes.{dirtyAt}
 
 -- where each field of the chip record is

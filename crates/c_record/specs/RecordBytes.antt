@@ -5,13 +5,13 @@ use mathlib.Core.List.{List, [], _∷_, _++_}
 use Prim.Native.Nat.{ℕ}
 use lib.Dec.{leb, eqb}
 use lib.ListN.{length, getD, take, drop}
-use Rattle.lists.specs.Lists.{lowFirst, lowValue}
+use Rattle.lists.specs.Lists.{lowFirst, lowValue, bit}
 use Rattle.lists.specs.Questions.{asked}
 use Rattle.image.specs.Image.{imageLength}
 use Rattle.kind.specs.Kind.{kindNumber, kindOf}
 use Rattle.part.specs.Part.{partNumber, partOf, numberFits}
 use Rattle.cart.specs.declared.Cartridge.{Cartridge}
-use Rattle.cart.specs.ChipState.{bit, stateSize, chipBytes, chipOf, fieldQuestions}
+use Rattle.cart.specs.ChipState.{stateSize, chipBytes, chipOf, fieldQuestions}
 use Rattle.cart.specs.Record.{State, recordAllowed}
 use Rattle.cart.specs.Replies.{state}
 

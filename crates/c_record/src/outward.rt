@@ -8,7 +8,7 @@ ghost use mathlib.Core.Path.{_≡_};
 ghost use mathlib.Core.Bool.{cond};
 ghost use Prim.Native.Nat.{_<_};
 ghost use lib.ListN.{getD, set};
-ghost use Rattle.cart.specs.ChipState.{bit as bit·spec};
+ghost use Rattle.lists.specs.Lists.{bit as bit·spec};
 ghost use Rattle.c_record.specs.RecordBytes.{recordSize, recordBytes};
 ghost use Rattle.c_record.specs.Fields.{withFlash, withWidth};
 ghost use Rattle.c_record.specs.Fields.{withAcc, withShift, withPlace, withEnded, withSerial};
@@ -56,7 +56,7 @@ pub fn put_width(cart: &mut RecordBytes, width: u8, large: bool)
     ensures { λ _. ⌜ now (cart .exit) ≡ withWidth (now (cart .entry)) width large ⌝ }
 {
     cart[layout::WIDTH] = width;
-    cart[layout::LARGE] = cart::bit(large);
+    cart[layout::LARGE] = lists::bit(large);
 }
 
 fn put_acc(cart: &mut RecordBytes, acc: u64)
@@ -104,7 +104,7 @@ pub fn put_eeprom(cart: &mut RecordBytes, sets: bool, e: Eeprom)
     let phase = e.phase;
     let flag = cart[layout::DIRTY];
     cart[layout::WIDTH] = e.width;
-    cart[layout::LARGE] = cart::bit(e.large);
+    cart[layout::LARGE] = lists::bit(e.large);
     cart[layout::PHASE] = cart::phase_number(phase);
     cart[layout::COUNT] = e.count;
     cart[layout::BLOCK] = (e.block % 256) as u8;
@@ -127,7 +127,7 @@ pub fn record_bytes(cart: Cartridge) -> RecordBytes
         (cart.len / 65536 % 256) as u8,
         (cart.len / 16777216 % 256) as u8,
         kind::kind_number(kind) as u8,
-        cart::bit(cart.dirty),
+        lists::bit(cart.dirty),
         b[0],
         b[1],
         b[2],

@@ -5,12 +5,11 @@ use mathlib.Core.List.{List, []}
 use Prim.Native.Nat.{ℕ, _≤_}
 use native.Mathlib.Omega.{arith}
 use lib.ListN.{getD, set}
-use Rattle.lists.specs.Lists.{lowFirst}
+use Rattle.lists.specs.Lists.{lowFirst, bit}
 use Rattle.lists.proofs.Bools.{either}
 use Rattle.image.specs.declared.Answer.{Answer}
 use Rattle.kind.specs.Kind.{usesEeprom, windowStart}
 use Rattle.cart.specs.declared.Cartridge.{Cartridge}
-use Rattle.cart.specs.ChipState.{bit}
 use Rattle.cart.specs.Calls.{takeSaveDirty, questions, accepted, usesEepromOf, eepromWindowStart}
 use Rattle.c_record.specs.RecordBytes.{recordBytes, cartOf, isRecord, Valid}
 use Rattle.c_record.specs.AtExit.{flagAt, askedAt}

@@ -26,7 +26,7 @@ pub fn uses_eeprom(cart: &RecordBytes, answer: &mut u32) -> u32
     if !c_record::is_record(cart) {
         return 2;
     }
-    *answer = cart::bit(kind::uses_eeprom(c_record::kind_in(cart))) as u32;
+    *answer = lists::bit(kind::uses_eeprom(c_record::kind_in(cart))) as u32;
     0
 }
 

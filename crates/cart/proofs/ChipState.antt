@@ -9,9 +9,9 @@ use lib.ListN.{length, getD, drop, length-drop}
 use lib.Pow.{areBytes}
 use lib.Seq.{take-all}
 use borrow.Author.Tests.{leb-true, eqb-true, eqb-false, le-leb, lt-ltb}
-use Rattle.lists.specs.Lists.{lowFirst, lowValue}
+use Rattle.lists.specs.Lists.{lowFirst, lowValue, bit}
 use Rattle.lists.specs.Questions.{asked}
-use Rattle.lists.proofs.Bools.{split, and-left, and-right}
+use Rattle.lists.proofs.Bools.{split, and-left, and-right, bit-le, bit-back, bit-forth}
 use Rattle.lists.proofs.Questions.{all-yes, yes-all}
 use Rattle.lists.proofs.Digits.{low-back, low-forth, byte-lt, bytes-drop}
 use Rattle.lists.proofs.Parts.{spelled, spells}
@@ -21,7 +21,7 @@ use Rattle.eeprom.specs.declared.EepromPhase.the-variants.{Opcode, ReadAddress,
 use Rattle.eeprom.specs.Eeprom.{byPhase, wOf, countLimit}
 use Rattle.eeprom.proofs.Sound.{Sound as EepromSound, block-1024, count-64}
 use Rattle.cart.specs.declared.ChipRecord.{ChipRecord}
-use Rattle.cart.specs.ChipState.{phaseNumber, phaseOf, bit, chipBytes, chipOf, fieldQuestions, stateQuestions}
+use Rattle.cart.specs.ChipState.{phaseNumber, phaseOf, chipBytes, chipOf, fieldQuestions, stateQuestions}
 
 pub phase-le : (p : EepromPhase) → leb (phaseNumber p) 6 ≡ true
 phase-le Opcode = refl
@@ -41,14 +41,6 @@ phase-back WriteData = refl
 phase-back ReadStop = refl
 phase-back WriteStop = refl
 phase-back Reading = refl
-
-pub bit-le : (b : Bool) → leb (bit b) 1 ≡ true
-bit-le true = refl
-bit-le false = refl
-
-pub bit-back : (b : Bool) → eqb (bit b) 1 ≡ b
-bit-back true = refl
-bit-back false = refl
 
 -- a chip that a run from a fresh one can reach is allowed
 pub chip-allowed : (c : ChipRecord) → FlashSound (c .flash) → EepromSound (c .eeprom) → asked (fieldQuestions (chipBytes c)) ≡ 0
@@ -107,11 +99,6 @@ chip-back c a =
             acc = low-back 8 (e .acc) a i;
           };
     }
-
-bit-forth : (n : ℕ) → leb n 1 ≡ true → bit (eqb n 1) ≡ n
-bit-forth n h =
-    let l = leb-true n 1 h in
-    split (λ x. x ≡ n) (eqb n 1) (λ e. sym (eqb-true n 1 e)) (λ e. let q = eqb-false n 1 e in omega arith)
 
 phase-forth : (n : ℕ) → leb n 6 ≡ true → phaseNumber (phaseOf n) ≡ n
 unfolding phaseOf

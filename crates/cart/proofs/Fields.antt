@@ -11,7 +11,7 @@ use borrow.Author.Tests.{eqb-true, ltb-true, leb-true, le-leb}
 use Rattle.lists.specs.Lists.{lowFirst, lowValue}
 use Rattle.lists.specs.Questions.{asked}
 use Rattle.lists.proofs.Questions.{yes-all}
-use Rattle.lists.proofs.Bools.{and-left, and-right}
+use Rattle.lists.proofs.Bools.{and-left, and-right, bit-le, bit-back}
 use Rattle.lists.proofs.Parts.{spelled, spells}
 use Rattle.image.specs.Image.{imageLength}
 use Rattle.flash.specs.Flash.{stateAllowed}
@@ -23,7 +23,7 @@ use Rattle.cart.specs.ChipState.{chipBytes, fieldQuestions, stateQuestio
 use Rattle.cart.specs.declared.Cartridge.{Cartridge}
 use Rattle.part.specs.Part.{partFits}
 use Rattle.cart.specs.Record.{chipAllowed, recordAllowed}
-use Rattle.cart.proofs.ChipState.{phase-le, phase-back, bit-le, bit-back}
+use Rattle.cart.proofs.ChipState.{phase-le, phase-back}
 
 -- the questions about state, flags, width, places and count, where the count's own limit tells that it is at most 64
 numbers : (s b w c k p l : Bool) → (w ≡ true → l ≡ true → c ≡ true)

@@ -5,7 +5,7 @@ use mathlib.Core.Option.{Option, none, some}
 use Prim.Native.Nat.{ℕ}
 use lib.Dec.{ltb, leb}
 use lib.ListN.{length, take}
-use Rattle.lists.specs.Lists.{into}
+use Rattle.lists.specs.Lists.{into, bit}
 use Rattle.lists.specs.Questions.{Question, _else_}
 use Rattle.memory.specs.declared.Store.the-variants.{File}
 use Rattle.memory.specs.Memory.{Held, changed}
@@ -21,7 +21,7 @@ use Rattle.eeprom.specs.declared.Eeprom.{Eeprom}
 use Rattle.eeprom.specs.Eeprom.{told, beginDma, dmaQuestion, bitIn, readBit, afterRead}
 use Rattle.cart.specs.declared.ChipRecord.{ChipRecord}
 use Rattle.cart.specs.declared.Cartridge.{Cartridge}
-use Rattle.cart.specs.ChipState.{bit, chipBytes, chipOf, stateQuestions}
+use Rattle.cart.specs.ChipState.{chipBytes, chipOf, stateQuestions}
 use Rattle.cart.specs.Record.{State, Outcome, guarded, outcome, outcomeOf, counted}
 use Rattle.cart.specs.Record.{recordQuestion, memoryQuestion}
 

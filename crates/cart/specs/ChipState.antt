@@ -4,7 +4,7 @@ use mathlib.Core.List.{List, [], _∷_}
 use Prim.Native.Nat.{ℕ, _+_, _*_, _/_, _%_}
 use lib.Dec.{ltb, leb, eqb}
 use lib.ListN.{length, getD, drop}
-use Rattle.lists.specs.Lists.{lowFirst, lowValue}
+use Rattle.lists.specs.Lists.{bit, lowFirst, lowValue}
 use Rattle.lists.specs.Questions.{Question, _else_}
 use Rattle.flash.specs.Flash.{stateAllowed}
 use Rattle.eeprom.specs.declared.EepromPhase.{EepromPhase}
@@ -23,9 +23,6 @@ phaseOf n =
     (cond (eqb n 1) ReadAddress
     (cond (eqb n 2) WriteAddress
     (cond (eqb n 3) WriteData (cond (eqb n 4) ReadStop (cond (eqb n 5) WriteStop Reading)))))
-
-abbrev pub bit : Bool → ℕ
-bit b = cond b 1 0
 
 -- "Chip record, as `chip_state` writes it"
 unfoldable pub chipBytes : ChipRecord → List ℕ

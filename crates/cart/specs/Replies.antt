@@ -8,7 +8,7 @@ use Rattle.eeprom.specs.declared.Eeprom.{Eeprom}
 use Rattle.cart.specs.declared.ChipRecord.{ChipRecord}
 use Rattle.cart.specs.declared.Cartridge.{Cartridge}
 use Rattle.cart.specs.declared.Reply.{Reply}
-use Rattle.cart.specs.ChipState.{bit}
+use Rattle.lists.specs.Lists.{bit}
 use Rattle.cart.specs.Record.{State, Outcome}
 
 abbrev pub state : Cartridge → List ℕ → State

@@ -19,7 +19,6 @@ pub use state_bytes::field_questions;
 pub use state_bytes::phase_number;
 pub use state_bytes::state_questions;
 ghost use mathlib.Core.Path.{_≡_};
-ghost use Rattle.cart.specs.ChipState.{bit as bit·spec};
 ghost use Rattle.cart.specs.Record.{freshChip, isLarge, freshCart};
 ghost use Rattle.cart.specs.Replies.{reply, done as done·spec, stored as stored·spec, refused};
 ghost use Rattle.cart.specs.Replies.{chipRecord, cartWith};
@@ -48,12 +47,6 @@ pub struct Reply {
     pub value: u32,
     pub changed: u32,
     pub cart: Cartridge,
-}
-
-pub fn bit(b: bool) -> u8
-    ensures { λ r. ⌜ r ≡ bit·spec b ⌝ }
-{
-    if b { 1 } else { 0 }
 }
 
 // Every reply is made here.

@@ -1,6 +1,5 @@
 // The chip record as bytes.
 use crate::ChipRecord;
-use crate::bit;
 use crate::layout;
 use crate::layout::StateBytes;
 use eeprom::Eeprom;
@@ -52,9 +51,9 @@ pub fn chip_bytes(chip: ChipRecord) -> StateBytes
     [
         flash.state,
         flash.bank,
-        bit(flash.id),
+        lists::bit(flash.id),
         e.width,
-        bit(e.large),
+        lists::bit(e.large),
         phase_number(phase),
         e.count,
         (e.block % 256) as u8,

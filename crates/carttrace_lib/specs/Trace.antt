@@ -4,14 +4,14 @@ use mathlib.Core.List.{List, [], _∷_, _++_}
 use Prim.Native.Nat.{ℕ, _+_, _*_}
 use lib.Dec.{eqb}
 use lib.ListN.{length}
-use Rattle.lists.specs.Lists.{into}
+use Rattle.lists.specs.Lists.{into, bit}
 use Rattle.memory.specs.Memory.{erased}
 use Rattle.kind.specs.declared.SaveType.{SaveType}
 use Rattle.kind.specs.Kind.{memorySize}
 use Rattle.part.specs.declared.Part.the-variants.{Usual}
 use Rattle.cart.specs.declared.Cartridge.{Cartridge}
 use Rattle.cart.specs.declared.Reply.{Reply}
-use Rattle.cart.specs.ChipState.{bit, stateSize}
+use Rattle.cart.specs.ChipState.{stateSize}
 use Rattle.cart.specs.Record.{State, Outcome, freshCart}
 use Rattle.cart.specs.Calls.{saveRead, saveWrite, eepromBeginDma, eepromWrite, eepromRead}
 use Rattle.cart.specs.Calls.{chipState, takeSaveDirty, step}

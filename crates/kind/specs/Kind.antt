@@ -62,15 +62,32 @@ marker image s = stands (ascii s) image
 abbrev pub eepromKind : ℕ → SaveType
 eepromKind imageLength = cond (ltb 16777216 imageLength) Eeprom8k Eeprom512
 
--- `detect_save_type`: "Bytes ACh–AFh: .. Else these markers are tried in this order .. Else title bytes A0h–ABh
--- equal to POKEMON RUBY .. Else None."
+-- the game codes of kind Sram, and those of kind Flash128
+abbrev pub sramCode : List ℕ → Bool
+sramCode image = code image "GBXP" || code image "GBXJ" || code image "GBXE"
+
+abbrev pub flashCode : List ℕ → Bool
+flashCode image = code image "GB4P" || code image "GB4J" || code image "GB4E"
+
+-- "title bytes A0h–ABh equal to POKEMON RUBY"
+abbrev pub rubyTitle : List ℕ → Bool
+rubyTitle image = begins (ascii "POKEMON RUBY") (drop 0xa0 image)
+
+-- `detect_save_type` by header, length and the markers found: "Bytes ACh–AFh: .. Else these markers are tried in this
+-- order .. Else title .. Else None."
+abbrev pub kindBy : List ℕ → ℕ → (sram flash64 flash128 eeprom : Bool) → SaveType
+kindBy header imageLength sram flash64 flash128 eeprom =
+    cond (sramCode header) Sram
+    (cond (flashCode header) Flash128
+    (cond sram Sram
+    (cond flash64 Flash64
+    (cond flash128 Flash128
+    (cond eeprom (eepromKind imageLength)
+    (cond (rubyTitle header) Flash128
+    None))))))
+
 unfoldable pub detectSaveType : List ℕ → SaveType
 detectSaveType image =
-    cond (code image "GBXP" || code image "GBXJ" || code image "GBXE") Sram
-    (cond (code image "GB4P" || code image "GB4J" || code image "GB4E") Flash128
-    (cond (marker image "SRAM_V") Sram
-    (cond (marker image "FLASH_V" || marker image "FLASH512_V") Flash64
-    (cond (marker image "FLASH1M_V") Flash128
-    (cond (marker image "EEPROM_V") (eepromKind (length image))
-    (cond (begins (ascii "POKEMON RUBY") (drop 0xa0 image)) Flash128
-    None))))))
+    kindBy image (length image) (marker image "SRAM_V") (marker image "FLASH_V" || marker image "FLASH512_V")
+    (marker image "FLASH1M_V")
+    (marker image "EEPROM_V")

@@ -1,8 +1,13 @@
 // The kinds of save memory, and which one an image has.
 
+mod header;
 mod markers;
 
+pub use header::flash_code;
+pub use header::ruby_title;
+pub use header::sram_code;
 pub use markers::detect_save_type;
+pub use markers::eeprom_kind;
 ghost use mathlib.Core.Path.{_≡_};
 ghost use Rattle.kind.specs.Kind.{kindNumber, kindOf, memorySize, usesEeprom, windowStart};
 

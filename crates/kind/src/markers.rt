@@ -1,34 +1,12 @@
-// The kind of an image: its game code, then the markers that occur in it, then its title.
+// The kind of an image: its game code, then the markers that occur in it, then its title. Each marker is searched for
+// on its own, as document 01 has it; the calls use the single reading of the crate `matcher`.
 use crate::SaveType;
+use crate::header::begins;
+use crate::header::flash_code;
+use crate::header::ruby_title;
+use crate::header::sram_code;
 ghost use mathlib.Core.Path.{_≡_};
-ghost use mathlib.Core.Bool.{_||_};
-ghost use lib.ListN.{drop};
-ghost use Rattle.kind.specs.Kind.{begins as begins·spec, stands, eepromKind, detectSaveType};
-
-fn begins(s: &[u8], p: &[u8]) -> bool
-    ensures { λ r. ⌜ r ≡ begins·spec (now (p .entry)) (now (s .entry)) ⌝ }
-{
-    if s.len() < p.len() {
-        return false;
-    }
-    let mut i = 0;
-    while i < p.len() {
-        if p[i] != s[i] {
-            return false;
-        }
-        i += 1;
-    }
-    true
-}
-
-fn begins_at(s: &[u8], place: usize, p: &[u8]) -> bool
-    ensures { λ r. ⌜ r ≡ begins·spec (now (p .entry)) (drop place (now (s .entry))) ⌝ }
-{
-    if s.len() < place {
-        return p.len() == 0;
-    }
-    begins(&s[place..], p)
-}
+ghost use Rattle.kind.specs.Kind.{stands, eepromKind, detectSaveType};
 
 // Whether the marker occurs anywhere, however far back. Its first byte is tested before the others.
 pub fn contains(s: &[u8], marker: &[u8]) -> bool
@@ -54,24 +32,7 @@ pub fn contains(s: &[u8], marker: &[u8]) -> bool
     false
 }
 
-// One of three codes at ACh.
-fn code_is(image: &[u8], a: &[u8], b: &[u8], c: &[u8]) -> bool
-    ensures { λ r. ⌜
-        r
-        ≡ (begins·spec (now (a .entry)) (drop 0xac (now (image .entry)))
-        || begins·spec (now (b .entry)) (drop 0xac (now (image .entry)))
-        || begins·spec (now (c .entry)) (drop 0xac (now (image .entry)))) ⌝ }
-{
-    if begins_at(image, 0xAC, a) {
-        return true;
-    }
-    if begins_at(image, 0xAC, b) {
-        return true;
-    }
-    begins_at(image, 0xAC, c)
-}
-
-fn eeprom_kind(length: usize) -> SaveType
+pub fn eeprom_kind(length: usize) -> SaveType
     ensures { λ r. ⌜ r ≡ eepromKind length ⌝ }
 {
     if 16777216 < length {
@@ -84,10 +45,10 @@ fn eeprom_kind(length: usize) -> SaveType
 pub fn detect_save_type(image: &[u8]) -> SaveType
     ensures { λ r. ⌜ r ≡ detectSaveType (now (image .entry)) ⌝ }
 {
-    if code_is(image, b"GBXP", b"GBXJ", b"GBXE") {
+    if sram_code(image) {
         return SaveType::Sram;
     }
-    if code_is(image, b"GB4P", b"GB4J", b"GB4E") {
+    if flash_code(image) {
         return SaveType::Flash128;
     }
     if contains(image, b"SRAM_V") {
@@ -105,7 +66,7 @@ pub fn detect_save_type(image: &[u8]) -> SaveType
     if contains(image, b"EEPROM_V") {
         return eeprom_kind(image.len());
     }
-    if begins_at(image, 0xA0, b"POKEMON RUBY") {
+    if ruby_title(image) {
         return SaveType::Flash128;
     }
     SaveType::None

@@ -1,4 +1,5 @@
 -- Bytes, texts and digits: what the other definitions are made of.
+use mathlib.Core.Bool.{Bool, cond}
 use mathlib.Core.List.{List, [], _∷_, _++_}
 use Prim.Native.Nat.{ℕ, zero, suc, _+_, _*_, _/_, _%_, _^_}
 use Prim.Native.Char.{code}
@@ -26,6 +27,10 @@ lowFirst (suc n) x = x % 256 ∷ lowFirst n (x / 256)
 unfoldable pub lowValue : List ℕ → ℕ
 lowValue [] = 0
 lowValue (b ∷ bs) = b + 256 * lowValue bs
+
+-- a Boolean as a number
+abbrev pub bit : Bool → ℕ
+bit b = cond b 1 0
 
 -- the function f over the bytes, from the left
 unfoldable pub fold : (ℕ → ℕ → ℕ) → ℕ → List ℕ → ℕ

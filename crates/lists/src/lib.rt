@@ -4,7 +4,7 @@
 ghost use mathlib.Core.Path.{_≡_};
 ghost use Prim.Native.Nat.{_+_, _*_, _≤_};
 ghost use lib.ListN.{length, replicate};
-ghost use Rattle.lists.specs.Lists.{into};
+ghost use Rattle.lists.specs.Lists.{bit as bit·spec, into};
 
 // Every byte becomes v.
 pub fn fill(s: &mut [u8], v: u8)
@@ -27,6 +27,13 @@ pub fn copy(s: &mut [u8], output: &[u8])
         s[i] = output[i];
         i += 1;
     }
+}
+
+// A Boolean as a number.
+pub fn bit(b: bool) -> u8
+    ensures { λ r. ⌜ r ≡ bit·spec b ⌝ }
+{
+    if b { 1 } else { 0 }
 }
 
 // The number of two, four and eight bytes, low byte first.

@@ -41,7 +41,7 @@ pub fn from_number(image: &[u8], part: u32, memory: &mut [u8]) -> Reply
     if !image::image_length(image.len()) {
         return cart::refuse(1, no_cart());
     }
-    let kind = kind::detect_save_type(image);
+    let kind = matcher::detect_save_type(image);
     if memory.len() != kind::memory_size(kind) {
         return cart::refuse(3, no_cart());
     }
@@ -101,7 +101,7 @@ pub fn take_save_dirty(cart: Cartridge) -> Reply
     }
     let chip = cart.chip;
     cart::done(
-        cart::bit(cart.dirty) as u32,
+        lists::bit(cart.dirty) as u32,
         cart::cart_with(cart, false, chip),
     )
 }
@@ -113,7 +113,7 @@ pub fn uses_eeprom(cart: Cartridge) -> Answer
         return image::refuse(2);
     }
     let kind = cart.kind;
-    image::accept(cart::bit(kind::uses_eeprom(kind)) as u32)
+    image::accept(lists::bit(kind::uses_eeprom(kind)) as u32)
 }
 
 pub fn eeprom_window_start(cart: Cartridge) -> Answer

@@ -43,6 +43,23 @@ pub fn detect_save_type(image: &[u8]) -> Result<Kind, Refusal> {
     Ok(Kind::of(kind).expect("a kind's number"))
 }
 
+/// What a search found, and how far it looked.
+#[derive(Clone, Copy, Debug, PartialEq, Eq, Hash)]
+pub struct Found {
+    /// The kind of the image's backup chip.
+    pub kind: Kind,
+    /// How many of the image's bytes were handed over to find it, from the front: 0 if the game code decides; otherwise, if SRAM_V
+    /// occurs, the offset just after the first one; otherwise the image's length.
+    pub handed: usize,
+}
+
+/// Finds the kind as [`detect_save_type`] does, and tells how far it had to look.
+pub fn search(image: &[u8]) -> Result<Found, Refusal> {
+    let mut handed = 0;
+    let kind = value(|kind| unsafe { raw::gbasave_search(image.as_ptr(), image.len(), kind, &mut handed) })?;
+    Ok(Found { kind: Kind::of(kind).expect("a kind's number"), handed: handed as usize })
+}
+
 /// Returns the value of a call that asks no questions and so cannot be refused.
 fn unasked(call: impl FnOnce(&mut u32) -> u32) -> usize {
     value(call).expect("no question is asked") as usize

@@ -2,7 +2,7 @@
 //! The comments there say in full what each call does.
 //!
 //! A [`Cartridge`] owns its save memory and its record. The image is borrowed only when the cartridge is opened. So the
-//! refusals about record and memory cannot occur here, and a call that has no other refusals does not return a `Result`.
+//! refusals about record and memory cannot occur on a cartridge, and a call that has no other refusals does not return a `Result`.
 //!
 //! ```
 //! use gbasave::{Cartridge, Kind};
@@ -64,6 +64,24 @@
 //! assert_eq!((cart.save_read(0x0E00_0000), cart.save_read(0x0E00_0001)), (0xC2, 0x1C));
 //! # Ok::<(), gbasave::Refusal>(())
 //! ```
+//!
+//! A host that reads an image from a card in blocks finds its kind with a [`Matcher`], and its CRC with a [`Crc`], without holding
+//! the image:
+//!
+//! ```
+//! use gbasave::{Crc, Kind, Matcher};
+//!
+//! let mut image = vec![0; 4096];
+//! image[1019..1025].copy_from_slice(b"SRAM_V"); // over the boundary of two blocks
+//! let (mut matcher, mut crc) = (Matcher::new(), Crc::start());
+//! for block in image.chunks(512) {
+//!     matcher.feed(block); // true if the kind needs no more blocks
+//!     crc.feed(block);
+//! }
+//! assert_eq!(matcher.finish(&image[..192], image.len())?, Kind::Sram);
+//! assert_eq!(crc.finish(), gbasave::rom_crc(&image)?);
+//! # Ok::<(), gbasave::Refusal>(())
+//! ```
 
 #![deny(missing_docs)]
 
@@ -72,6 +90,7 @@ mod cartridge;
 mod crc;
 mod image;
 mod kind;
+mod matcher;
 mod part;
 mod raw;
 mod refusal;
@@ -80,8 +99,9 @@ mod version;
 
 pub use cartridge::{Cartridge, Imported};
 pub use crc::Crc;
-pub use image::{detect_save_type, header_checksum, read, read16, read32, rom_crc, save_fit, save_size, title};
+pub use image::{detect_save_type, header_checksum, read, read16, read32, rom_crc, save_fit, save_size, search, title, Found};
 pub use kind::Kind;
+pub use matcher::Matcher;
 pub use part::Part;
 pub use refusal::Refusal;
 pub use state::{ChipState, Identity, NotResumed, State};

@@ -6,6 +6,7 @@
 use std::ops::Range;
 
 pub const RECORD_SIZE: usize = 25;
+pub const MATCHER_SIZE: usize = 13;
 pub const STATE_SIZE: usize = 18;
 pub const TITLE_SIZE: usize = 36;
 
@@ -19,11 +20,13 @@ pub const RECORD_FLAG: usize = 5;
 pub const RECORD_PART: usize = 24;
 
 pub type Record = [u8; RECORD_SIZE];
+pub type Matcher = [u8; MATCHER_SIZE];
 
 #[link(name = "gbasave", kind = "static")]
 extern "C" {
     pub fn gbasave_version() -> u32;
     pub fn gbasave_detect_save_type(image: *const u8, image_length: usize, kind: &mut u32) -> u32;
+    pub fn gbasave_search(image: *const u8, image_length: usize, kind: &mut u32, handed: &mut u32) -> u32;
     pub fn gbasave_save_size(image: *const u8, image_length: usize, size: &mut u32) -> u32;
     pub fn gbasave_save_fit(image: *const u8, image_length: usize, file_length: usize, kept: &mut u32) -> u32;
     pub fn gbasave_memory_size(kind: u32, size: &mut u32) -> u32;
@@ -42,6 +45,15 @@ extern "C" {
     pub fn gbasave_crc_start(crc: &mut u32) -> u32;
     pub fn gbasave_crc_feed(crc: &mut u32, piece: *const u8, piece_length: usize) -> u32;
     pub fn gbasave_crc_finish(crc: &mut u32) -> u32;
+    pub fn gbasave_matcher_start(matcher: &mut Matcher) -> u32;
+    pub fn gbasave_matcher_feed(matcher: &mut Matcher, piece: *const u8, piece_length: usize, done: &mut u32) -> u32;
+    pub fn gbasave_matcher_finish(
+        matcher: &Matcher,
+        header: *const u8,
+        header_length: usize,
+        image_length: usize,
+        kind: &mut u32,
+    ) -> u32;
     pub fn gbasave_id_word(part: u32, kind: u32, word: &mut u32) -> u32;
     pub fn gbasave_from_bytes(
         record: &mut Record,

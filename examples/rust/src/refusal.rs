@@ -8,7 +8,7 @@ use std::{error, fmt};
 pub enum Refusal {
     /// The image has not 192 to 33,554,432 bytes.
     ImageLength = 1,
-    /// The record is not valid.
+    /// The record is not valid, or the matcher.
     Record,
     /// The memory does not have its kind's length.
     MemoryLength,
@@ -72,7 +72,7 @@ impl Refusal {
     pub fn text(self) -> &'static str {
         match self {
             Self::ImageLength => "the image's length is not allowed",
-            Self::Record => "this is no cartridge record",
+            Self::Record => "this is no valid record, matcher or kind",
             Self::MemoryLength => "the save memory does not have its kind's length",
             Self::NoEeprom => "the cartridge has no EEPROM",
             Self::DmaTooLate => "the DMA length comes too late in an address",

@@ -1,6 +1,6 @@
 //! The CRC of whole images, and of bytes that come in pieces. The part goes through 32,768 bytes at a time, in eight lanes of 4,096.
 
-use super::{held, same};
+use super::{cut, held, same};
 use crate::part_image as part;
 use crate::run::Run;
 use crate::side::Answer;
@@ -57,16 +57,4 @@ fn crc(run: &mut Run, random: &mut Random, bytes: &[u8], longest: usize) {
     held(run, "rom_crc", whole, part::rom_crc(bytes));
     same(run, "crc_feed, one piece", expected, part::crc_of_pieces([bytes]));
     same(run, "crc_feed", expected, part::crc_of_pieces(cut(random, bytes, longest)));
-}
-
-/// Pieces of at most so many bytes, empty ones among them.
-fn cut<'a>(random: &mut Random, mut bytes: &'a [u8], longest: usize) -> Vec<&'a [u8]> {
-    let mut pieces = Vec::new();
-    while !bytes.is_empty() {
-        let length = random.below(longest as u64 + 1) as usize;
-        let (piece, rest) = bytes.split_at(length.min(bytes.len()));
-        pieces.push(piece);
-        bytes = rest;
-    }
-    pieces
 }

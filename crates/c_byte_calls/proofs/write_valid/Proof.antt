@@ -11,7 +11,7 @@ use Rattle.flash.specs.declared.Flash.{Flash}
 use Rattle.byte_step.specs.declared.ByteStep.{ByteStep}
 use Rattle.byte_step.specs.ByteStep.{writeStep}
 use Rattle.byte_step.proofs.Fits.{step-fits}
-use Rattle.cart.specs.ChipState.{bit}
+use Rattle.lists.specs.Lists.{bit}
 use Rattle.c_record.specs.Fields.{withId}
 use Rattle.c_record.proofs.FieldBytes.{id-byte, id-stays}
 use Rattle.c_byte_calls.proofs.ByteCalls.{write-no, write-yes, id-kept}

@@ -5,7 +5,7 @@ use native.Mathlib.Omega.{arith}
 use lib.ListN.{length}
 use Rattle.kind.specs.declared.SaveType.{SaveType}
 use Rattle.kind.proofs.Sizes.{memory-small}
-use Rattle.cart.specs.ChipState.{bit}
+use Rattle.lists.specs.Lists.{bit}
 use Rattle.cart.specs.Calls.{largeAfter}
 use Rattle.c_record.specs.RecordBytes.{cartOf}
 use Rattle.c_record.proofs.FieldBytes.{large-byte}

@@ -1,7 +1,7 @@
 use mathlib.Core.Path.{ap, _∙_}
 use Rattle.lists.proofs.Bools.{denied, granted}
 use Rattle.image.specs.Image.{accepted}
-use Rattle.cart.specs.ChipState.{bit}
+use Rattle.lists.specs.Lists.{bit}
 use Rattle.cart.specs.Calls.{usesEepromOf}
 use borrow.Author.Needs.{needs}
 use Rattle.state_calls.proofs.uses_eeprom.Statement.{statement}

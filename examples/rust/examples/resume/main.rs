@@ -1,10 +1,11 @@
 //! A small host. It opens images, saves on every chip, takes states in the middle of an 81-bit write and resumes them in a fresh
 //! cartridge and in the open one. It gives a game the flash chip that the game looks for. It writes the file out when enough bytes
-//! have changed. A wrong answer ends the program.
+//! have changed. It finds the kind of images that it reads in blocks. A wrong answer ends the program.
 
 mod budget;
 mod game;
 mod parts;
+mod pieces;
 mod refusals;
 mod states;
 
@@ -166,5 +167,6 @@ fn main() -> Result<(), Box<dyn Error>> {
     states::shown()?;
     parts::shown()?;
     budget::shown()?;
+    pieces::shown()?;
     Ok(refusals::shown()?)
 }

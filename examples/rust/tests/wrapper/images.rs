@@ -63,6 +63,7 @@ fn short_and_long_images() {
         let image = vec![0; length];
         assert_eq!(Cartridge::open(&image), Err(Refusal::ImageLength));
         assert_eq!(detect_save_type(&image), Err(Refusal::ImageLength));
+        assert_eq!(search(&image), Err(Refusal::ImageLength));
         assert_eq!(read(&image, 0), Err(Refusal::ImageLength));
         assert_eq!(read16(&image, 0), Err(Refusal::ImageLength));
         assert_eq!(read32(&image, 0), Err(Refusal::ImageLength));

@@ -6,6 +6,7 @@ mod files;
 #[path = "../../examples/resume/game.rs"]
 mod game;
 mod images;
+mod matchers;
 mod parts;
 mod serial;
 mod states;

@@ -2,7 +2,7 @@
 use mathlib.Core.Path.{ap, _∙_}
 use Rattle.lists.proofs.Bools.{denied, granted}
 use Rattle.kind.specs.Kind.{usesEeprom}
-use Rattle.cart.specs.ChipState.{bit}
+use Rattle.lists.specs.Lists.{bit}
 use Rattle.cart.specs.Calls.{usesEepromOf}
 use Rattle.c_state_calls.proofs.ValueCalls.{asked-no, uses-yes}
 use borrow.Author.Needs.{needs}

@@ -1,7 +1,7 @@
 use mathlib.Core.Path.{sym, _∙_}
 use borrow.Author.Needs.{needs}
-use Rattle.kind.proofs.markers.code_is.Statement.{statement}
-use Rattle.kind.proofs.markers.code_is.Tie as tie
+use Rattle.kind.proofs.header.code_is.Statement.{statement}
+use Rattle.kind.proofs.header.code_is.Tie as tie
 
 returns : tie.Need-returns
 returns c = rw (sym (c .before .begins-at .ensures) ∙ c .if1 .taken)

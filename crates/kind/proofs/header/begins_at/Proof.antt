@@ -3,8 +3,8 @@ use Rattle.lists.proofs.Parts.{rest}
 use Rattle.kind.specs.Kind.{begins}
 use Rattle.kind.proofs.Standing.{begins-past}
 use borrow.Author.Needs.{needs}
-use Rattle.kind.proofs.markers.begins_at.Statement.{statement}
-use Rattle.kind.proofs.markers.begins_at.Tie as tie
+use Rattle.kind.proofs.header.begins_at.Statement.{statement}
+use Rattle.kind.proofs.header.begins_at.Tie as tie
 
 returns : tie.Need-returns
 returns c = let a = c .before .before .before .args in begins-past (a .p .now) (a .s .now) (a .place) (c .if1 .taken)

@@ -1,0 +1,3 @@
+pub mod MatcherBytes
+pub mod Calls
+pub mod Claims

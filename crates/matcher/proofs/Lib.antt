@@ -1,0 +1,9 @@
+pub mod Endings
+pub mod Pairs
+pub mod Reading
+pub mod Standing
+pub mod Seen
+pub mod Deciding
+pub mod Pieces
+pub mod Claims
+pub mod Examples

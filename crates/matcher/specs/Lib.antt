@@ -1,0 +1,5 @@
+pub mod Matcher
+pub mod Reading
+pub mod Quiet
+pub mod Search
+pub mod Claims
