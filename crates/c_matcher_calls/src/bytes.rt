@@ -1,18 +1,21 @@
 // A matcher's bytes: the markers seen, then the last bytes.
 use matcher::Matcher;
 ghost use mathlib.Core.Path.{_≡_};
-ghost use Rattle.c_matcher_calls.specs.MatcherBytes.{matcherBytes, matcherOf, isMatcher};
+ghost use lib.ListN.{length};
+ghost use Rattle.c_matcher_calls.specs.MatcherBytes.{matcherSize, matcherBytes, matcherOf, isMatcher};
 
 pub type MatcherBytes = [u8; 13];
 
 // Question 2.
-pub fn is_matcher(b: &MatcherBytes) -> bool
+pub fn is_matcher(b: &[u8]) -> bool
+    requires { ⌜ length (now b) ≡ matcherSize ⌝ }
     ensures { λ r. ⌜ r ≡ isMatcher (now (b .entry)) ⌝ }
 {
     (b[0] <= 1) & (b[1] <= 1) & (b[2] <= 1) & (b[3] <= 1)
 }
 
-pub fn matcher_of(b: &MatcherBytes) -> Matcher
+pub fn matcher_of(b: &[u8]) -> Matcher
+    requires { ⌜ length (now b) ≡ matcherSize ⌝ }
     ensures { λ r. ⌜ r ≡ matcherOf (now (b .entry)) ⌝ }
 {
     Matcher {

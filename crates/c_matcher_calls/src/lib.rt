@@ -18,7 +18,8 @@ pub fn search(image: &[u8], kind: &mut u32, handed: &mut u32) -> u32
         return 1;
     }
     let found = matcher::search(image);
-    *kind = kind::kind_number(found.kind) as u32;
+    let save_type = found.kind;
+    *kind = kind::kind_number(save_type) as u32;
     *handed = found.count as u32;
     0
 }

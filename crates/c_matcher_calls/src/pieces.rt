@@ -18,10 +18,10 @@ pub fn feed(matcher: &mut MatcherBytes, piece: &[u8], done: &mut u32) -> u32
     ensures { λ x. ⌜ (x, now (matcher .exit), now (done .exit))
         ≡ feeds (now (matcher .entry)) (now (piece .entry)) (now (done .entry)) ⌝ }
 {
-    if !is_matcher(matcher) {
+    if !is_matcher(&matcher[..]) {
         return 2;
     }
-    let fed = matcher::feed(matcher_of(matcher), piece);
+    let fed = matcher::feed(matcher_of(&matcher[..]), piece);
     let next = fed.matcher;
     *matcher = matcher_bytes(next);
     *done = lists::bit(next.sram) as u32;
@@ -38,9 +38,9 @@ pub fn finish(matcher: &MatcherBytes, header: &[u8], length: usize, kind: &mut u
     if header.len() < 192 {
         return 1;
     }
-    if !is_matcher(matcher) {
+    if !is_matcher(&matcher[..]) {
         return 2;
     }
-    *kind = kind::kind_number(matcher::finish(matcher_of(matcher), header, length)) as u32;
+    *kind = kind::kind_number(matcher::finish(matcher_of(&matcher[..]), header, length)) as u32;
     0
 }

@@ -23,6 +23,7 @@ use Rattle.cart.proofs.Counts.{accepted-0}
 use Rattle.c_record.specs.RecordBytes.{cartOf, isRecord, stateOf}
 use Rattle.c_record.specs.AtExit.{AtExit, left, untouched, called, plain, valueAt, changedAt, importAt, flagAt, stateAt, exportAt, askedAt}
 use Rattle.c_record.specs.Calls as calls
+use Rattle.c_matcher_calls.specs.Calls.{searches, feeds}
 use Rattle.c_record.proofs.RecordBytes.{record-and-bytes}
 use Rattle.cart_abi.specs.Host.{ExportedCall, saveRead, saveWrite, eepromBeginDma, eepromWrite, eepromRead, loadSave, saveData, chipState, takeSaveDirty, importSave}
 use Rattle.cart_abi.specs.Host.{Bytes, found, made, plainly, valued, stored, imported, filed, stated, flagged, make}
@@ -130,6 +131,16 @@ title : (image d : List ℕ) (p : ℕ) → headerTitle image d .0 .refusal ≢ 0
 unfolding headerTitle
 title image d p h = cases (eqb (asked (titleQuestions image d)) 0) (λ t. absurd ((rw t at h) refl)) (λ t. rw t (rw t))
 
+search-leaves : (image : List ℕ) (k h : ℕ) → searches image k h .0 ≢ 0 → searches image k h ≡ (searches image k h .0, k, h)
+unfolding searches
+search-leaves image k h z =
+    ap₂ (λ (x y : ℕ). (searches image k h .0, x, y)) (kept (searches image k h .0) _ k z) (kept (searches image k h .0) _ h z)
+
+feed-leaves : (b piece : List ℕ) (d : ℕ) → feeds b piece d .0 ≢ 0 → feeds b piece d ≡ (feeds b piece d .0, b, d)
+unfolding feeds
+feed-leaves b piece d z =
+    ap₂ (λ (x : List ℕ) (y : ℕ). (feeds b piece d .0, x, y)) (kept (feeds b piece d .0) _ b z) (kept (feeds b piece d .0) _ d z)
+
 pub refused-leaves : RefusedLeaves
 refused-leaves =
     record {
@@ -139,4 +150,6 @@ refused-leaves =
       ofRecord = of-record;
       ofImage = of-image;
       title = title;
+      search = search-leaves;
+      feed = feed-leaves;
     }

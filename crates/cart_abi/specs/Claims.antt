@@ -13,6 +13,7 @@ use Rattle.cart.specs.declared.Cartridge.{Cartridge}
 use Rattle.c_record.specs.RecordBytes.{recordSize}
 use Rattle.c_record.specs.AtExit.{askedAt}
 use Rattle.c_record.specs.Calls.{opens, restores}
+use Rattle.c_matcher_calls.specs.Calls.{searches, feeds}
 use Rattle.cart_abi.specs.Host.{ExportedCall, saveRead, saveWrite, eepromBeginDma, eepromWrite, eepromRead}
 use Rattle.cart_abi.specs.Host.{loadSave, saveData, chipState, takeSaveDirty, importSave}
 use Rattle.cart_abi.specs.Host.{Bytes, Made, found, made, make}
@@ -47,3 +48,7 @@ pub record RefusedLeaves : Type 0 where
   pub ofImage : (a : Answer) (p : ℕ) → a .refusal ≢ 0 → answeredAt a p ≡ (a .refusal, p)
   pub title : (image d : List ℕ) (p : ℕ) → headerTitle image d .0 .refusal ≢ 0
       → titleAt (headerTitle image d) p ≡ (headerTitle image d .0 .refusal, d, p)
+  -- the search and a piece; `finishes` is an answer of the form above
+  pub search : (image : List ℕ) (k h : ℕ) → searches image k h .0 ≢ 0
+      → searches image k h ≡ (searches image k h .0, k, h)
+  pub feed : (b piece : List ℕ) (d : ℕ) → feeds b piece d .0 ≢ 0 → feeds b piece d ≡ (feeds b piece d .0, b, d)

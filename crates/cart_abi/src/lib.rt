@@ -2,5 +2,6 @@
 // number of a refusal; values go to out-parameters.
 
 mod images;
+mod matchers;
 mod records;
 mod version;

@@ -3,6 +3,7 @@ use Rattle.lists.proofs.Questions.{refused-first}
 use Rattle.image.proofs.Complement.{header-complement}
 use Rattle.title.proofs.Room.{title-fits}
 use Rattle.crc.proofs.Parts as crc
+use Rattle.matcher.proofs.Claims.{single-reading, in-pieces}
 use Rattle.file_sizes.proofs.Largest.{largest-kept}
 use Rattle.flash.proofs.Commands.{flash-chip}
 use Rattle.eeprom.proofs.Commands.{serial-chip, opcode-lost, abandons}
@@ -21,6 +22,7 @@ use Rattle.chip_by_reference.proofs.ThinCall.{thin-call}
 use Rattle.replay.proofs.Encoded.{replay-runs}
 use Rattle.out_params.proofs.NoneIsZero.{none-is-zero}
 use Rattle.c_record.proofs.RecordBytes.{record-and-bytes}
+use Rattle.c_matcher_calls.proofs.Claims.{piece-calls}
 use Rattle.cart_abi.proofs.Refused.{refused-leaves}
 use Rattle.cart_abi.proofs.CutBytes.{exported-cut-runs}
 use Rattle.carttrace_lib.proofs.Whole.{whole, pieces}
@@ -62,6 +64,9 @@ claims =
         noneIsZero = none-is-zero;
         titleFits = title-fits;
         crcPieces = crc.pieces;
+        singleReading = single-reading;
+        inPieces = in-pieces;
+        pieceCalls = piece-calls;
       };
       programs = record { whole = whole; pieces = pieces; ends = ends; settles = settles };
     }

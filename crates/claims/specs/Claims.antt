@@ -10,6 +10,7 @@ use Rattle.title.specs.Claims.{TitleFits}
 use Rattle.crc.specs.Pieces as crc
 use Rattle.kind.specs.declared.SaveType.{SaveType}
 use Rattle.part.specs.declared.Part.{Part}
+use Rattle.matcher.specs.Claims.{SingleReading, InPieces}
 use Rattle.file_sizes.specs.Claims.{LargestKept}
 use Rattle.flash.specs.Gbatek.{FlashChipClaim}
 use Rattle.eeprom.specs.Gbatek.{SerialChipClaim, OpcodeLost, Abandons}
@@ -24,6 +25,7 @@ use Rattle.chip_by_reference.specs.Claims.{ThinCall}
 use Rattle.replay.specs.Claims.{ReplayRuns}
 use Rattle.out_params.specs.Claims.{NoneIsZero}
 use Rattle.c_record.specs.Claims.{RecordAndBytes}
+use Rattle.c_matcher_calls.specs.Claims.{PieceCalls}
 use Rattle.cart_abi.specs.Claims.{RefusedLeaves}
 use Rattle.cart_abi.specs.CutBytes.{ExportedCutRuns}
 use Rattle.carttrace_lib.specs.Claims.{Whole, Pieces, Ends}
@@ -68,6 +70,9 @@ pub record Others : Type 0 where
   pub noneIsZero : NoneIsZero
   pub titleFits : TitleFits
   pub crcPieces : crc.Pieces
+  pub singleReading : SingleReading
+  pub inPieces : InPieces
+  pub pieceCalls : PieceCalls
 
 -- `carttrace` and `cuttrace`
 pub record Programs : Type 0 where

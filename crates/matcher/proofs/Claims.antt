@@ -25,7 +25,7 @@ unfolding found
 single-reading =
     record {
       sees = sees;
-      alone = λ image. sym (header-kind image (steps start (take (handed image) image)) ∙ alone-kind image);
+      alone = λ image. sym (header-kind image (length image) (steps start (take (handed image) image)) ∙ alone-kind image);
       reading =
           λ image e.
           fed (reads start image)
@@ -41,7 +41,7 @@ in-pieces =
       all = all-joined;
       kind =
           λ image pieces e.
-          header-kind image (fedAll start pieces .matcher)
+          header-kind image (length image) (fedAll start pieces .matcher)
           ∙ ap (λ (f : Fed). kindAfter image (length image) (f .matcher)) (all-joined start pieces ∙ ap (reads start) e)
           ∙ read-kind image;
       number =

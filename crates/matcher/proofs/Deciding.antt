@@ -2,7 +2,7 @@
 use mathlib.Core.Path.{_≡_, refl, sym, ap, _∙_}
 use mathlib.Core.Bool.{Bool, true, false, cond, _||_}
 use mathlib.Core.List.{List, [], reverse}
-use Prim.Native.Nat.{ℕ}
+use Prim.Native.Nat.{ℕ, _≤_}
 use native.Mathlib.Omega.{arith}
 use lib.ListN.{length, take}
 use lib.Seq.{take-length}
@@ -18,7 +18,7 @@ use Rattle.matcher.specs.Matcher.{start, steps, seen}
 use Rattle.matcher.specs.Reading.{reads}
 use Rattle.matcher.specs.Search.{codeDecides, behindFirst, handed, found, kindAfter}
 use Rattle.matcher.proofs.Standing.{begins-part, stands-front}
-use Rattle.matcher.proofs.Reading.{reads-steps}
+use Rattle.matcher.proofs.Reading.{reads-steps, reads-within}
 use Rattle.matcher.proofs.Seen.{sees, knows-start, handed-over, whole}
 
 answer : {j k : SaveType} {a b : ℕ} → j ≡ k → a ≡ b → _≡_ {A = Found} (record { kind = j; count = a }) (record { kind = k; count = b })
@@ -42,9 +42,9 @@ module _ (image : List ℕ) where
         begins-part 0xac 192 (ascii "GB4E") image (omega arith),
       )
 
-  pub header-kind : (m : Matcher) → kindAfter (take 192 image) (length image) m ≡ kindAfter image (length image) m
+  pub header-kind : (n : ℕ) (m : Matcher) → kindAfter (take 192 image) n m ≡ kindAfter image n m
   unfolding kindAfter
-  header-kind m = rw (header-sram, header-flash, begins-part 0xa0 192 (ascii "POKEMON RUBY") image (omega arith))
+  header-kind n m = rw (header-sram, header-flash, begins-part 0xa0 192 (ascii "POKEMON RUBY") image (omega arith))
 
   -- a game code decides, whatever was seen
   by-code : (s f : Bool) (x y p q : SaveType) → s || f ≡ true → cond s x (cond f y p) ≡ cond s x (cond f y q)
@@ -64,7 +64,17 @@ module _ (image : List ℕ) where
   known : reads start image .matcher ≡ seen (take (reads start image .count) image)
   known = reads-steps start image ∙ sees (take (reads start image .count) image)
 
-  -- SRAM_V was seen, or all markers of the image were
+  -- SRAM_V was seen where it stands in the image
+  pub read-sram : reads start image .matcher .sram ≡ marker image "SRAM_V"
+  unfolding seen
+  read-sram =
+      let r = reads start image in
+      let k : r .matcher .sram ≡ marker (take (r .count) image) "SRAM_V" = ap (λ (m : Matcher). m .sram) known in
+      cases (r .matcher .sram)
+      (λ s. s ∙ sym (stands-front (ascii "SRAM_V") image (r .count) (omega arith) (sym k ∙ s)))
+      (λ s. k ∙ ap (λ (l : List ℕ). marker l "SRAM_V") (ap (λ (n : ℕ). take n image) (whole start image s) ∙ take-length image))
+
+  -- it was seen, or all markers of the image were
   same-sram : (m : Matcher) → m .sram ≡ true → marker image "SRAM_V" ≡ true → kindAfter image (length image) m ≡ detectSaveType image
   unfolding kindAfter detectSaveType
   same-sram m s t = rw (s, t)
@@ -78,8 +88,7 @@ module _ (image : List ℕ) where
   read-kind =
       cases (reads start image .matcher .sram)
       (λ s.
-      same-sram (reads start image .matcher) s
-      (stands-front (ascii "SRAM_V") image (reads start image .count) (omega arith) (sym (ap (λ (m : Matcher). m .sram) known) ∙ s)))
+      same-sram (reads start image .matcher) s (sym read-sram ∙ s))
       (λ s.
       let all : take (reads start image .count) image ≡ image = ap (λ (n : ℕ). take n image) (whole start image s) ∙ take-length image in
       same-all (reads start image .matcher) (known ∙ ap seen all))
@@ -101,6 +110,10 @@ module _ (image : List ℕ) where
       ap (λ (n : ℕ). kindAfter image (length image) (steps start (take n image))) (sym (read-count e))
       ∙ ap (kindAfter image (length image)) (sym (reads-steps start image))
       ∙ read-kind)
+
+  pub handed-le : handed image ≤ length image
+  handed-le =
+      cases (codeDecides image) (λ e. omega (arith, none-handed e)) (λ e. omega (arith, read-count e, reads-within start image))
 
   -- what the search answers
   pub code-found : (k : SaveType) (m : Matcher) → codeDecides image ≡ true → k ≡ kindAfter image (length image) m

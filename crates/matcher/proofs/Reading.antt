@@ -96,7 +96,15 @@ reads-steps m (b ∷ s) =
     let k : 1 + reads (step m b) s .count ≡ suc (reads (step m b) s .count) = omega arith in
     rw (reads-one m b s e, k) (reads-steps (step m b) s))
 
--- a turn at place n
+-- nine last bytes are kept
+pub reads-nine : (m : Matcher) (s : List ℕ) → length (m .last) ≡ 9 → length (reads m s .matcher .last) ≡ 9
+unfolding reads step
+reads-nine m [] h = h
+reads-nine m (b ∷ s) h =
+    cases (m .sram) (λ e. rw (reads-stop m (b ∷ s) e) h)
+    (λ e. rw (reads-one m b s e) (reads-nine (step m b) s (ap suc (length-take-le 8 (m .last) (omega arith)))))
+
+-- an advance at place n
 pub advance-on : (m : Matcher) (s : List ℕ) (n : ℕ) (f : Fed) → Advanced m (drop n s) f → more (n + f .count) (reads (f .matcher) (drop (n + f .count) s)) ≡ more n (reads m (drop n s))
 advance-on m s n f h =
     sym (more-more n (f .count) (reads (f .matcher) (drop (n + f .count) s)))
