@@ -16,7 +16,7 @@ use Rattle.matcher.specs.declared.Matcher.{Matcher}
 use Rattle.matcher.specs.declared.Fed.{Fed}
 use Rattle.matcher.specs.Matcher.{start}
 use Rattle.matcher.specs.Reading.{reads, fedAll}
-use Rattle.matcher.specs.Search.{found, kindAfter}
+use Rattle.matcher.specs.Search.{found, headerOf, kindAfter}
 use Rattle.matcher.proofs.Deciding.{header-kind, read-sram}
 use Rattle.matcher.proofs.Pieces.{joined, all-joined, all-nine}
 use Rattle.matcher.proofs.Claims.{in-pieces}
@@ -99,7 +99,7 @@ module _ (pieces : List (List ℕ)) where
       ∙ ap (λ (f : Fed). f .matcher .sram) (joined start (flatten pieces) piece)
       ∙ read-sram (flatten pieces ++ piece)
 
-  ends : (image header : List ℕ) → flatten pieces ≡ image → imageLength (length image) ≡ true → 192 ≤ length header → take 192 header ≡ take 192 image
+  ends : (image header : List ℕ) → flatten pieces ≡ image → imageLength (length image) ≡ true → 192 ≤ length header → headerOf header ≡ headerOf image
       → finishes (fedPieces (starts .1) pieces) header (length image) ≡ kindAnswer image
   unfolding finishes kindAnswer found
   ends image header e l h t =

@@ -3,11 +3,12 @@ use mathlib.Core.Path.{_≡_}
 use mathlib.Core.Bool.{true}
 use mathlib.Core.List.{List, [], _∷_, _++_, flatten}
 use Prim.Native.Nat.{ℕ, _≤_}
-use lib.ListN.{length, take}
+use lib.ListN.{length}
 use Rattle.lists.specs.Lists.{bit}
 use Rattle.image.specs.Image.{imageLength}
 use Rattle.kind.specs.Kind.{marker}
 use Rattle.matcher.specs.declared.Matcher.{Matcher}
+use Rattle.matcher.specs.Search.{headerOf}
 use Rattle.out_params.specs.Places.{kindAnswer}
 use Rattle.c_matcher_calls.specs.MatcherBytes.{matcherBytes, matcherOf, isMatcher}
 use Rattle.c_matcher_calls.specs.Calls.{starts, feeds, finishes}
@@ -29,5 +30,5 @@ pub record PieceCalls : Type 0 where
   -- at the end the kind is the whole image's, of any header that begins as the image does
   pub end : (image : List ℕ) (pieces : List (List ℕ)) (header : List ℕ)
       → flatten pieces ≡ image → imageLength (length image) ≡ true
-      → 192 ≤ length header → take 192 header ≡ take 192 image
+      → 192 ≤ length header → headerOf header ≡ headerOf image
       → finishes (fedPieces (starts .1) pieces) header (length image) ≡ kindAnswer image

@@ -16,7 +16,7 @@ use Rattle.matcher.specs.declared.Fed.{Fed}
 use Rattle.matcher.specs.declared.Found.{Found}
 use Rattle.matcher.specs.Matcher.{start, steps, seen}
 use Rattle.matcher.specs.Reading.{reads}
-use Rattle.matcher.specs.Search.{codeDecides, behindFirst, handed, found, kindAfter}
+use Rattle.matcher.specs.Search.{codeDecides, behindFirst, handed, found, headerSize, headerOf, kindAfter}
 use Rattle.matcher.proofs.Standing.{begins-part, stands-front}
 use Rattle.matcher.proofs.Reading.{reads-steps, reads-within}
 use Rattle.matcher.proofs.Seen.{sees, knows-start, handed-over, whole}
@@ -26,25 +26,25 @@ answer p q = cc
 
 module _ (image : List ℕ) where
   -- the header is enough
-  header-sram : sramCode (take 192 image) ≡ sramCode image
+  header-sram : sramCode (headerOf image) ≡ sramCode image
   header-sram =
       rw (
-        begins-part 0xac 192 (ascii "GBXP") image (omega arith),
-        begins-part 0xac 192 (ascii "GBXJ") image (omega arith),
-        begins-part 0xac 192 (ascii "GBXE") image (omega arith),
+        begins-part 0xac headerSize (ascii "GBXP") image (omega arith),
+        begins-part 0xac headerSize (ascii "GBXJ") image (omega arith),
+        begins-part 0xac headerSize (ascii "GBXE") image (omega arith),
       )
 
-  header-flash : flashCode (take 192 image) ≡ flashCode image
+  header-flash : flashCode (headerOf image) ≡ flashCode image
   header-flash =
       rw (
-        begins-part 0xac 192 (ascii "GB4P") image (omega arith),
-        begins-part 0xac 192 (ascii "GB4J") image (omega arith),
-        begins-part 0xac 192 (ascii "GB4E") image (omega arith),
+        begins-part 0xac headerSize (ascii "GB4P") image (omega arith),
+        begins-part 0xac headerSize (ascii "GB4J") image (omega arith),
+        begins-part 0xac headerSize (ascii "GB4E") image (omega arith),
       )
 
-  pub header-kind : (n : ℕ) (m : Matcher) → kindAfter (take 192 image) n m ≡ kindAfter image n m
+  pub header-kind : (n : ℕ) (m : Matcher) → kindAfter (headerOf image) n m ≡ kindAfter image n m
   unfolding kindAfter
-  header-kind n m = rw (header-sram, header-flash, begins-part 0xa0 192 (ascii "POKEMON RUBY") image (omega arith))
+  header-kind n m = rw (header-sram, header-flash, begins-part 0xa0 headerSize (ascii "POKEMON RUBY") image (omega arith))
 
   -- a game code decides, whatever was seen
   by-code : (s f : Bool) (x y p q : SaveType) → s || f ≡ true → cond s x (cond f y p) ≡ cond s x (cond f y q)

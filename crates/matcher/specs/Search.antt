@@ -2,7 +2,7 @@
 use mathlib.Core.Bool.{Bool, cond, _||_}
 use mathlib.Core.List.{List, [], _∷_}
 use Prim.Native.Nat.{ℕ, suc}
-use lib.ListN.{length}
+use lib.ListN.{length, take}
 use Rattle.lists.specs.Lists.{ascii}
 use Rattle.kind.specs.declared.SaveType.{SaveType}
 use Rattle.kind.specs.Kind.{begins, sramCode, flashCode, kindBy, detectSaveType}
@@ -25,6 +25,13 @@ handed image = cond (codeDecides image) 0 (behindFirst (ascii "SRAM_V") image)
 -- "A new search gives the same kind and the number of image bytes it handed to the matcher"
 unfoldable pub found : List ℕ → Found
 found image = record { kind = detectSaveType image; count = handed image }
+
+-- "Header": all that is looked at of an image besides its markers
+abbrev pub headerSize : ℕ
+headerSize = 192
+
+abbrev pub headerOf : List ℕ → List ℕ
+headerOf image = take headerSize image
 
 -- the kind that "header, length and the matcher's steps" give
 unfoldable pub kindAfter : List ℕ → ℕ → Matcher → SaveType
