@@ -344,6 +344,17 @@ static void put_title(struct answer *a, uint32_t length)
     put_bytes(a, title, count);
 }
 
+/* If the search finds another kind, or hands over more bytes than there are, that is in the answer too, which then differs. */
+static void put_kind(struct answer *a, uint32_t length)
+{
+    uint32_t kind = NO_VALUE, found = NO_VALUE, handed = NO_VALUE;
+    const uint32_t refusal = gbasave_detect_save_type(image, length, &kind);
+    if (gbasave_search(image, length, &found, &handed) != refusal || found != kind || handed > length)
+        a->count += (size_t)snprintf(a->digits + a->count, sizeof a->digits - a->count, " and a search that gives %lu after %lu bytes ",
+                                     (unsigned long)found, (unsigned long)handed);
+    put_next(a, refusal, &kind, 2);
+}
+
 /* 10 image length (8) seed (2) offset (8) text (0 to 66) */
 static void image_alone(const uint8_t *s, size_t count, struct answer *a)
 {
@@ -354,7 +365,7 @@ static void image_alone(const uint8_t *s, size_t count, struct answer *a)
     put_text(length, number(s + 5, 4), s + 9, count - 9);
     if (!put_status(a, open_image(&record, length)))
         return;
-    put_next(a, gbasave_detect_save_type(image, length, &value), &value, 2);
+    put_kind(a, length);
     put_next(a, gbasave_header_checksum(image, length, &value), &value, 2);
     put_next(a, gbasave_rom_crc(image, length, &value), &value, 8);
     put_next(a, gbasave_save_size(image, length, &value), &value, 8);

@@ -3,7 +3,8 @@
  * part and kind, held against document 01's "Questions at the door" and document 02's ticket 1 as written here. The original cannot be asked:
  * it has no such records, memories, destinations and parts. A refused call has to leave record, memory, destination and places as they were;
  * a refused opening makes the record zeros. ID mode has to show each part's word. An accepted call that stores has to write how many bytes of the
- * memory it changed, ticket 2's number. --fault NAME expects something wrong, which has to be found.
+ * memory it changed, ticket 2's number. Searches in pieces, ticket 3's, are asked with matchers that are none and with such as no image leads to:
+ * refused they have to leave matcher and places, else they have to step as written here. --fault NAME expects something wrong, which has to be found.
  */
 #include "gbasave.h"
 
@@ -35,9 +36,10 @@ static uint8_t other_file[512];
 static uint8_t before[LONGEST];
 
 /* What is expected wrongly: a count of 64 in phase 3; records with a part that does not fit; a 128K part on Flash64; 15 asked before 3; two parts'
-   words swapped; the maker at odd addresses; every byte of the memory changed by a load; the number 0 of a refused call that stores. */
-static enum { NOTHING, COUNT, RECORDS, SIZES, ORDER, WORDS, MAKER, LOADS, REFUSED } fault;
-static const char *const FAULT[] = {"nothing", "count", "records", "sizes", "order", "words", "maker", "loads", "refused"};
+   words swapped; the maker at odd addresses; every byte of the memory changed by a load; the number 0 of a refused call that stores; matchers whose
+   fourth byte is 2; 2 asked before 1 at the end of a search. */
+static enum { NOTHING, COUNT, RECORDS, SIZES, ORDER, WORDS, MAKER, LOADS, REFUSED, MATCHERS, FINISH } fault;
+static const char *const FAULT[] = {"nothing", "count", "records", "sizes", "order", "words", "maker", "loads", "refused", "matchers", "finish"};
 
 static unsigned long calls, by_number[16];
 
@@ -210,6 +212,253 @@ static int read_bytes(void)
     return 0;
 }
 
+/* ---- Searches --------------------------------------------------------------------------------------------------------------------- */
+
+enum { MATCHER = GBASAVE_MATCHER_SIZE, HEADER = GBASAVE_HEADER_SIZE, MARKERS = 5, LAST = 9, LONGEST_PIECE = 100 };
+
+/* The markers, and which of the matcher's first four bytes tells that one was seen. */
+static const char *const MARKED[MARKERS] = {"SRAM_V", "FLASH_V", "FLASH512_V", "FLASH1M_V", "EEPROM_V"};
+static const unsigned SEEN[MARKERS] = {0, 1, 1, 2, 3};
+
+static int wrong_matcher(const char *what, const uint8_t *m, size_t length, size_t image_length)
+{
+    printf("questions: %s, %zu bytes, image %zu, matcher", what, length, image_length);
+    for (unsigned i = 0; i < MATCHER; i++)
+        printf(" %02X", m[i]);
+    printf("\n");
+    return 1;
+}
+
+/* 2, about a matcher: its first four bytes are each 0 or 1. */
+static int is_matcher(const uint8_t *m)
+{
+    return m[0] <= 1 && m[1] <= 1 && m[2] <= 1 && m[3] <= 1 + (fault == MATCHERS);
+}
+
+/* The last bytes, newest first, are the marker read backwards. */
+static int ends_with(const uint8_t *last, const char *marker)
+{
+    const size_t length = strlen(marker);
+    for (size_t i = 0; i < length; i++)
+        if (last[i] != (uint8_t)marker[length - 1 - i])
+            return 0;
+    return 1;
+}
+
+/* The matcher's step over one byte. */
+static void step(uint8_t *m, uint8_t byte)
+{
+    uint8_t last[1 + LAST] = {byte};
+    memcpy(last + 1, m + 4, LAST);
+    for (unsigned i = 0; i < MARKERS; i++)
+        if (ends_with(last, MARKED[i]))
+            m[SEEN[i]] = 1;
+    memcpy(m + 4, last, LAST);
+}
+
+static int ask_feed(const uint8_t *given, const uint8_t *piece, size_t length)
+{
+    const uint32_t no = is_matcher(given) ? 0 : 2;
+    uint8_t left[MATCHER];
+    gbasave_matcher m;
+    uint32_t done = PLACE;
+    memcpy(m.bytes, given, MATCHER);
+    memcpy(left, given, MATCHER);
+    for (size_t i = 0; no == 0 && i < length && left[0] == 0; i++)
+        step(left, piece[i]);
+    calls++;
+    by_number[no]++;
+    if (gbasave_matcher_feed(&m, piece, length, &done) != no)
+        return wrong_matcher("a piece, another number", given, length, 0);
+    if (done != (no ? (uint32_t)PLACE : left[0]))
+        return wrong_matcher("a piece, done or not", given, length, 0);
+    if (memcmp(m.bytes, left, MATCHER) != 0)
+        return wrong_matcher("a piece, another matcher", given, length, 0);
+    return 0;
+}
+
+/* 1, of both lengths, then 2. */
+static uint32_t finish_no(const uint8_t *m, size_t header_length, size_t image_length)
+{
+    if (fault == FINISH && !is_matcher(m))
+        return 2;
+    if (image_length < 192 || image_length > 33554432 || header_length < 192)
+        return 1;
+    return is_matcher(m) ? 0 : 2;
+}
+
+/* The kind by what was seen, where neither code nor title decides. */
+static uint32_t seen_kind(const uint8_t *m, size_t image_length)
+{
+    if (m[0])
+        return GBASAVE_KIND_SRAM;
+    if (m[1])
+        return GBASAVE_KIND_FLASH64;
+    if (m[2])
+        return GBASAVE_KIND_FLASH128;
+    if (m[3])
+        return image_length > 16777216 ? GBASAVE_KIND_EEPROM8K : GBASAVE_KIND_EEPROM512;
+    return GBASAVE_KIND_NONE;
+}
+
+/* Headers by one text: none, game codes, one that is none, the title. */
+static const struct {
+    const char *text;
+    size_t place;
+    enum { BY_SEEN, BY_CODE, BY_TITLE } decides;
+    uint32_t kind;
+} HEADERS[] = {{"", 0, BY_SEEN, 0},        {"GBXP", 0xAC, BY_CODE, 1}, {"GBXJ", 0xAC, BY_CODE, 1}, {"GBXE", 0xAC, BY_CODE, 1},
+               {"GB4P", 0xAC, BY_CODE, 3}, {"GB4J", 0xAC, BY_CODE, 3}, {"GB4E", 0xAC, BY_CODE, 3}, {"GB4X", 0xAC, BY_SEEN, 0},
+               {"GBXP", 0xAD, BY_SEEN, 0}, {"SRAM_V", 0, BY_SEEN, 0},  {"POKEMON RUBY", 0xA0, BY_TITLE, 3}};
+
+/* A code decides before what was seen, the title after it. What the header holds else does not count: it was fed or not. */
+static uint32_t kind_of(const uint8_t *m, size_t h, size_t image_length)
+{
+    const uint32_t seen = seen_kind(m, image_length);
+    return HEADERS[h].decides == BY_CODE || (HEADERS[h].decides == BY_TITLE && seen == 0) ? HEADERS[h].kind : seen;
+}
+
+static int ask_finish(const uint8_t *given, size_t h, size_t header_length, size_t image_length)
+{
+    static uint8_t header[HEADER + 1];
+    const uint32_t no = finish_no(given, header_length, image_length);
+    gbasave_matcher m;
+    uint32_t kind = PLACE;
+    memcpy(m.bytes, given, MATCHER);
+    memset(header, 0, sizeof header);
+    memcpy(header + HEADERS[h].place, HEADERS[h].text, strlen(HEADERS[h].text));
+    calls++;
+    by_number[no]++;
+    if (gbasave_matcher_finish(&m, header_length ? header : NULL, header_length, image_length, &kind) != no)
+        return wrong_matcher("the end, another number", given, header_length, image_length);
+    if (kind != (no ? (uint32_t)PLACE : kind_of(given, h, image_length)))
+        return wrong_matcher("the end, another kind", given, header_length, image_length);
+    if (memcmp(m.bytes, given, MATCHER) != 0)
+        return wrong_matcher("the end changes the matcher", given, header_length, image_length);
+    return 0;
+}
+
+/* A matcher with every header, header length and image length around the limits, and some pieces. */
+static int ask_matcher(const uint8_t *m)
+{
+    static const uint8_t PIECE[] = "EEPROM_V FLASH1M_V FLASH512_V FLASH_V SRAM_V FLASH_V";
+    static const size_t HEADER_LENGTH[] = {0, 191, 192, 193};
+    static const size_t IMAGE_LENGTH[] = {0, 191, 192, 193, 16777216, 16777217, 33554432, 33554433, SIZE_MAX};
+    for (size_t h = 0; h < sizeof HEADERS / sizeof *HEADERS; h++)
+        for (size_t l = 0; l < sizeof HEADER_LENGTH / sizeof *HEADER_LENGTH; l++)
+            for (size_t i = 0; i < sizeof IMAGE_LENGTH / sizeof *IMAGE_LENGTH; i++)
+                if (ask_finish(m, h, HEADER_LENGTH[l], IMAGE_LENGTH[i]))
+                    return 1;
+    return ask_feed(m, NULL, 0) || ask_feed(m, PIECE, 1) || ask_feed(m, PIECE, 37) || ask_feed(m, PIECE, sizeof PIECE);
+}
+
+/* Every byte with every value, beside first four bytes of 0 and of 1; then all four around their limit. */
+static int ask_matchers(void)
+{
+    static const uint8_t NEAR[] = {0, 1, 2, 255};
+    uint8_t m[MATCHER];
+    for (unsigned at = 0; at < MATCHER; at++)
+        for (unsigned value = 0; value < 256; value++)
+            for (unsigned others = 0; others < 2; others++) {
+                memset(m, 0, MATCHER);
+                memset(m, (int)others, 4);
+                m[at] = (uint8_t)value;
+                if (ask_matcher(m))
+                    return 1;
+            }
+    memset(m, 0, MATCHER);
+    for (unsigned i = 0; i < 256; i++) {
+        for (unsigned at = 0; at < 4; at++)
+            m[at] = NEAR[i >> 2 * at & 3];
+        if (ask_matcher(m))
+            return 1;
+    }
+    return 0;
+}
+
+/* Whatever 13 bytes there were. */
+static int ask_starts(void)
+{
+    static const uint8_t ZEROS[MATCHER];
+    for (unsigned value = 0; value < 256; value++) {
+        gbasave_matcher m;
+        memset(m.bytes, (int)value, MATCHER);
+        calls++;
+        by_number[0]++;
+        if (gbasave_matcher_start(&m) != 0 || memcmp(m.bytes, ZEROS, MATCHER) != 0)
+            return wrong_matcher("a start", m.bytes, 0, 0);
+    }
+    return 0;
+}
+
+static uint32_t random_below(uint32_t end)
+{
+    static uint64_t state = 1;
+    state = state * 6364136223846793005u + 1442695040888963407u;
+    return (uint32_t)(state >> 33) % end;
+}
+
+/* Letters of the markers, and a marker, whole or cut off at either end. */
+static void make_piece(uint8_t *piece, size_t length)
+{
+    static const char LETTERS[] = "SRAM_VFLH512EPO";
+    for (size_t i = 0; i < length; i++)
+        piece[i] = (uint8_t)LETTERS[random_below(sizeof LETTERS - 1)];
+    const char *marker = MARKED[random_below(MARKERS)];
+    for (size_t i = 0, at = random_below(LONGEST_PIECE); marker[i]; i++)
+        if (at + i >= LAST && at + i - LAST < length)
+            piece[at + i - LAST] = (uint8_t)marker[i];
+}
+
+/* Matchers with the beginning of a marker in their last bytes, and pieces with its end, which is damaged now and then. Most have seen markers of
+   which no image would leave these last bytes. */
+static int ask_pieces(void)
+{
+    uint8_t m[MATCHER], piece[LONGEST_PIECE];
+    for (unsigned n = 0; n < 1000000; n++) {
+        const char *marker = MARKED[random_below(MARKERS)];
+        const size_t length = random_below(LONGEST_PIECE + 1), in = random_below((uint32_t)strlen(marker));
+        for (unsigned at = 0; at < 4; at++)
+            m[at] = random_below(4) == 0;
+        make_piece(m + 4, LAST);
+        for (size_t i = 0; i < in; i++)
+            m[4 + in - 1 - i] = (uint8_t)marker[i];
+        make_piece(piece, length);
+        for (size_t i = in; marker[i] && i - in < length; i++)
+            if (random_below(16))
+                piece[i - in] = (uint8_t)marker[i];
+        if (ask_feed(m, piece, length))
+            return 1;
+    }
+    return 0;
+}
+
+static int ask_search(size_t image_length, uint32_t expected_kind, uint32_t expected_handed)
+{
+    const uint32_t no = image_length < 192 || image_length > 33554432;
+    uint32_t kind = PLACE, handed = PLACE;
+    calls++;
+    by_number[no]++;
+    if (gbasave_search(image_length ? image : NULL, image_length, &kind, &handed) != no)
+        return wrong_part("a search, another number", 0, expected_kind, image_length, 0);
+    if (kind != (no ? (uint32_t)PLACE : expected_kind) || handed != (no ? (uint32_t)PLACE : expected_handed))
+        return wrong_part("a search, another kind or number of bytes", 0, expected_kind, image_length, 0);
+    return 0;
+}
+
+/* An image of each kind, whose marker is first in it, and images of no allowed length. */
+static int ask_searches(void)
+{
+    for (unsigned kind = 0; kind < KINDS; kind++) {
+        const size_t length = make_image(kind);
+        if (ask_search(length, kind, kind == GBASAVE_KIND_SRAM ? 6 : (uint32_t)length) || ask_search(0, kind, 0) ||
+            ask_search(191, kind, 0) || ask_search(33554433, kind, 0))
+            return 1;
+    }
+    make_image(GBASAVE_KIND_NONE);
+    return ask_search(33554432, GBASAVE_KIND_NONE, 33554432);
+}
+
 /* ---- Calls on a record ------------------------------------------------------------------------------------------------------------ */
 
 /* The number of the first question to which the answer is no, or 0. */
@@ -380,14 +629,15 @@ int main(int argc, char **argv)
         if (strcmp(argv[2], FAULT[i]) == 0)
             fault = i;
     if (argc > 1 && fault == NOTHING) {
-        fprintf(stderr, "usage: questions [--fault count | records | sizes | order | words | maker | loads | refused]\n");
+        fprintf(stderr, "usage: questions [--fault count | records | sizes | order | words | maker | loads | refused | matchers | finish]\n");
         return 2;
     }
     for (size_t i = 0; i < LONGEST; i++)
         kept[i] = copy[i] = file[i] = (uint8_t)(i * 31 + i / 256);
     for (size_t i = 0; i < sizeof other_file; i++)
         other_file[i] = i < 100 ? file[i] : (uint8_t)~file[i];
-    if (ask_words() || read_bytes() || ask_openings(GBASAVE_KIND_NONE, GBASAVE_KIND_EEPROM512) || ask_records() ||
+    if (ask_words() || ask_starts() || ask_matchers() || ask_pieces() || ask_searches() || read_bytes() ||
+        ask_openings(GBASAVE_KIND_NONE, GBASAVE_KIND_EEPROM512) || ask_records() ||
         ask_openings(GBASAVE_KIND_EEPROM8K, GBASAVE_KIND_EEPROM8K))
         return 1;
     if (memcmp(kept, copy, LONGEST) != 0) {

@@ -118,11 +118,11 @@
  * or its own matcher. They may all pass the same image.
  *
  * TIME. gbasave_from_bytes, gbasave_detect_save_type, gbasave_search, gbasave_save_fit and gbasave_save_size search the
- * image. They go through it at most once, from the front, and no further than the first SRAM_V; not at all if the game
- * code decides. gbasave_rom_crc goes through the whole image, gbasave_crc_feed through its piece, gbasave_matcher_feed
- * through its piece up to the first SRAM_V. gbasave_load_save, gbasave_import_save, gbasave_save_data and the erasing
- * of a flash chip go through the memory, the erasing of a sector through its 4,096 bytes. The time of every other call
- * does not grow with the size of any of these.
+ * image. They hand its bytes to a matcher, from the front and each at most once, and stop after the first SRAM_V. They
+ * hand over none if the game code decides. gbasave_rom_crc goes through the whole image, gbasave_crc_feed through its
+ * piece, gbasave_matcher_feed through its piece up to the first SRAM_V. gbasave_load_save, gbasave_import_save,
+ * gbasave_save_data and the erasing of a flash chip go through the memory, the erasing of a sector through its 4,096
+ * bytes. The time of every other call does not grow with the size of any of these.
  *
  * TO PLAY.
  *   1. Compare gbasave_version() with GBASAVE_VERSION_NUMBER. If they differ, the archive belongs to another header.

@@ -95,6 +95,7 @@ extern "C" {
     pub fn gbasave_save_fit(image: *const u8, image_len: usize, length: usize, kept: &mut u32) -> u32;
     pub fn gbasave_save_size(image: *const u8, image_len: usize, size: &mut u32) -> u32;
     pub fn gbasave_memory_size(kind: u32, size: &mut u32) -> u32;
+    pub fn gbasave_version() -> u32;
 
     /// Runs a list of calls, with its cuts.
     pub fn gbasave_replay(

@@ -3,10 +3,12 @@
 
 mod bytes;
 mod calls;
+mod images;
 mod link;
 mod placed;
 pub mod table;
 
+use crate::part_image;
 use crate::side::Answer;
 use link::{Row, Times};
 use std::hint::black_box;
@@ -20,8 +22,9 @@ const ROUND_SECONDS: f64 = 0.0005;
 /// same of that.
 const ROUNDS: u32 = 5;
 const TURNS: u32 = 41;
-/// Turns of one round at work that takes longer than a round.
+/// Turns of one round at work that takes longer than a round; fewer where there are many such rows.
 const LONG_TURNS: u32 = 5;
+const FEW_TURNS: u32 = 3;
 
 /// The rows that are timed have this in their names.
 static WANTED: OnceLock<String> = OnceLock::new();
@@ -30,6 +33,7 @@ static WANTED: OnceLock<String> = OnceLock::new();
 pub fn rows(wanted: &str) {
     WANTED.get_or_init(|| wanted.into());
     calls::rows();
+    images::rows();
     bytes::rows();
 }
 
@@ -58,10 +62,16 @@ fn row(name: &str, units: u32, mut original: impl FnMut(), mut part: impl FnMut(
 }
 
 /// A row of one piece of work, which takes longer than a round.
-fn long_row(name: &str, original: impl FnMut(), part: impl FnMut()) {
+fn long_row(name: &str, row_turns: u32, original: impl FnMut(), part: impl FnMut()) {
     if is_wanted(name) {
-        turns(Row { name: name.into(), turns: LONG_TURNS }, 1, 1, 1, original, part);
+        turns(Row { name: name.into(), turns: row_turns }, 1, 1, 1, original, part);
     }
+}
+
+/// Such a row of calls that came with a version. A part from before it comes to the row, and has no turns.
+fn long_row_since(version: u32, name: &str, original: impl FnMut(), part: impl FnMut()) {
+    let row_turns = if part_image::version() >= version { LONG_TURNS } else { 0 };
+    long_row(name, row_turns, original, part);
 }
 
 fn is_wanted(name: &str) -> bool {

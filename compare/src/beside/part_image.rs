@@ -1,4 +1,4 @@
-//! The part's calls on an image or a kind alone.
+//! The part's calls on an image or a kind alone, and its version.
 
 use crate::abi::{self, *};
 use crate::part::answer;
@@ -86,4 +86,8 @@ pub fn save_size(image: &[u8]) -> Answer {
 
 pub fn memory_size(kind: Kind) -> Answer {
     answer(|size| unsafe { gbasave_memory_size(kind.into(), size) })
+}
+
+pub fn version() -> u32 {
+    unsafe { gbasave_version() }
 }

@@ -1,17 +1,17 @@
 -- The calls on a matcher's bytes give what the whole search gives. Assumes nothing.
 use mathlib.Core.Path.{_≡_, refl, sym, ap, _∙_}
-use mathlib.Core.Bool.{Bool, true, _&&_}
+use mathlib.Core.Bool.{true, _&&_}
 use mathlib.Core.List.{List, [], _∷_, _++_, flatten}
 use Prim.Native.Nat.{ℕ, _≤_}
 use native.Mathlib.Omega.{arith}
 use lib.Dec.{leb, eqb}
-use lib.ListN.{length, getD, take, drop}
+use lib.ListN.{length, getD}
 use lib.Seq.{drop-cons}
 use borrow.Author.Tests.{eqb-true, eq-eqb, le-leb}
 use Rattle.lists.specs.Lists.{bit}
 use Rattle.lists.proofs.Bools.{and-left, and-right, bit-le, bit-back, bit-forth}
 use Rattle.image.specs.Image.{imageLength}
-use Rattle.kind.specs.Kind.{marker, kindNumber, detectSaveType}
+use Rattle.kind.specs.Kind.{marker, detectSaveType}
 use Rattle.matcher.specs.declared.Matcher.{Matcher}
 use Rattle.matcher.specs.declared.Fed.{Fed}
 use Rattle.matcher.specs.Matcher.{start}

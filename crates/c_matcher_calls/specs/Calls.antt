@@ -1,9 +1,8 @@
 -- The C calls of the single reading: the number of a refusal or 0, and what they leave in the places passed.
 use mathlib.Core.List.{List, [], _∷_}
 use Prim.Native.Nat.{ℕ}
-use lib.ListN.{length}
 use Rattle.lists.specs.Lists.{bit}
-use Rattle.lists.specs.Questions.{Question, _else_, asked}
+use Rattle.lists.specs.Questions.{_else_, asked}
 use Rattle.image.specs.declared.Answer.{Answer}
 use Rattle.image.specs.Image.{imageLength, imageQuestion, headerQuestion, answered}
 use Rattle.kind.specs.Kind.{kindNumber}

@@ -1,6 +1,5 @@
 -- The claims of `specs/Claims.antt`. Assumes nothing.
 use mathlib.Core.Path.{_≡_, sym, ap, _∙_}
-use mathlib.Core.Bool.{false}
 use mathlib.Core.List.{List, [], _∷_, _++_, flatten, append-nil}
 use Prim.Native.Nat.{ℕ}
 use lib.ListN.{length, take}
@@ -8,7 +7,7 @@ use Rattle.matcher.specs.declared.Matcher.{Matcher}
 use Rattle.matcher.specs.declared.Fed.{Fed}
 use Rattle.matcher.specs.Matcher.{start, steps}
 use Rattle.matcher.specs.Reading.{reads, fedAll}
-use Rattle.matcher.specs.Search.{codeDecides, handed, found, kindAfter}
+use Rattle.matcher.specs.Search.{handed, found, kindAfter}
 use Rattle.matcher.specs.Claims.{SingleReading, InPieces}
 use Rattle.matcher.proofs.Reading.{reads-steps}
 use Rattle.matcher.proofs.Seen.{sees}

@@ -1,7 +1,7 @@
 -- The single reading gives the kind of `detectSaveType`. Assumes nothing.
 use mathlib.Core.Path.{_≡_, refl, sym, ap, _∙_}
 use mathlib.Core.Bool.{Bool, true, false, cond, _||_}
-use mathlib.Core.List.{List, [], reverse}
+use mathlib.Core.List.{List, []}
 use Prim.Native.Nat.{ℕ, _≤_}
 use native.Mathlib.Omega.{arith}
 use lib.ListN.{length, take}
@@ -10,7 +10,7 @@ use Rattle.lists.specs.Lists.{ascii}
 use Rattle.lists.proofs.Bools.{cases}
 use Rattle.kind.specs.declared.SaveType.{SaveType}
 use Rattle.kind.specs.declared.SaveType.the-variants.{Sram, Flash128}
-use Rattle.kind.specs.Kind.{stands, marker, sramCode, flashCode, kindBy, detectSaveType}
+use Rattle.kind.specs.Kind.{marker, sramCode, flashCode, detectSaveType}
 use Rattle.matcher.specs.declared.Matcher.{Matcher}
 use Rattle.matcher.specs.declared.Fed.{Fed}
 use Rattle.matcher.specs.declared.Found.{Found}
@@ -52,7 +52,7 @@ module _ (image : List ℕ) where
   by-code false true x y p q e = refl
   by-code false false x y p q e = let z : _≡_ {A = Bool} false true = e in cc
 
-  pub code-kind : (m : Matcher) → codeDecides image ≡ true → kindAfter image (length image) m ≡ detectSaveType image
+  code-kind : (m : Matcher) → codeDecides image ≡ true → kindAfter image (length image) m ≡ detectSaveType image
   unfolding kindAfter detectSaveType
   code-kind m e = by-code (sramCode image) (flashCode image) Sram Flash128 _ _ e
 

@@ -41,7 +41,7 @@ nest-begins [] l i h = refl
 nest-begins (c ∷ p) l i h = rw (drop-cons l i 0 (omega arith), nest-begins p l (suc i) (omega arith))
 
 -- the code's chain of tests
-abbrev pub tested : List ℕ → ℕ → List ℕ → Bool
+abbrev tested : List ℕ → ℕ → List ℕ → Bool
 tested [] b l = true
 tested (c ∷ p) b l = all (eqb c b) (tests p l 0)
 

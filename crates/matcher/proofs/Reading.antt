@@ -53,7 +53,7 @@ pub read-stop : (m : Matcher) (s : List ℕ) (n : ℕ) → m .sram ≡ true → 
 read-stop m s n e = rw (reads-stop m s e) (at-count m (omega arith))
 
 -- the first n bytes, and then the rest
-abbrev pub onward : List ℕ → Fed → Fed
+abbrev onward : List ℕ → Fed → Fed
 onward s f = more (f .count) (reads (f .matcher) (drop (f .count) s))
 
 on-suc : (b : ℕ) (s : List ℕ) (f : Fed) → onward (b ∷ s) (more 1 f) ≡ more 1 (onward s f)
@@ -61,7 +61,7 @@ on-suc b s f =
     let e : 1 + f .count ≡ suc (f .count) = omega arith in
     rw (more-more 1 (f .count) (reads (f .matcher) (drop (f .count) s)), e)
 
-pub reads-on : (m : Matcher) (s : List ℕ) (n : ℕ) → onward s (reads m (take n s)) ≡ reads m s
+reads-on : (m : Matcher) (s : List ℕ) (n : ℕ) → onward s (reads m (take n s)) ≡ reads m s
 unfolding reads
 reads-on m s zero = more-none (reads m s)
 reads-on m [] (suc n) = more-none (reads m [])
@@ -75,7 +75,7 @@ reads-on m (b ∷ s) (suc n) =
     ∙ sym (reads-one m b s e))
 
 -- and there is a first byte, where SRAM_V was not seen before
-pub reads-some : (m : Matcher) (s : List ℕ) → m .sram ≡ false → 0 < length s → 0 < reads m s .count
+reads-some : (m : Matcher) (s : List ℕ) → m .sram ≡ false → 0 < length s → 0 < reads m s .count
 reads-some m [] e h = absurd (omega arith)
 reads-some m (b ∷ s) e h = rw (reads-one m b s e) (omega arith)
 
@@ -119,7 +119,7 @@ back (x ∷ s) l (suc n) k h = ap (λ (r : List ℕ). x ∷ r) (back s l n k (om
 newest-back : (s l : List ℕ) (b : ℕ) → take 9 (reverseAux s (b ∷ take 8 l)) ≡ take 9 (reverseAux s (b ∷ l))
 newest-back s l b = rw (reverseAux-eq s (b ∷ take 8 l), reverseAux-eq s (b ∷ l)) (back (reverse s) (b ∷ l) 9 9 (omega arith))
 
-pub quiet-reads : (m : Matcher) (s t : List ℕ) → m .sram ≡ false → length (m .last) ≡ 9 → pairs (getD (m .last) 0 0) s ≡ false → more (length s) (reads (after m s) t) ≡ reads m (s ++ t)
+quiet-reads : (m : Matcher) (s t : List ℕ) → m .sram ≡ false → length (m .last) ≡ 9 → pairs (getD (m .last) 0 0) s ≡ false → more (length s) (reads (after m s) t) ≡ reads m (s ++ t)
 unfolding pairs after
 quiet-reads m [] t e h p = more-none _ ∙ ap (λ (l : List ℕ). reads (withLast m l) t) (take-all 9 (m .last) (omega arith))
 quiet-reads m (b ∷ s) t e h p =

@@ -2,11 +2,10 @@
 use mathlib.Core.Path.{_≡_, refl, sym, ap, _∙_}
 use mathlib.Core.Bool.{Bool, true, false, _||_, or-comm, or-false}
 use mathlib.Core.List.{List, [], _∷_, _++_, reverse, reverseAux, reverseAux-eq, reverse-cons, reverse-append, reverse-reverse}
-use Prim.Native.Nat.{ℕ, _+_, _≤_, _<_}
-use Prim.Native.String.{String}
+use Prim.Native.Nat.{ℕ, _+_, _≤_}
 use native.Mathlib.Omega.{arith}
 use lib.ListN.{length, take, drop, length-reverse, replicate}
-use lib.Seq.{take-take, take-length}
+use lib.Seq.{take-take}
 use Rattle.lists.specs.Lists.{ascii}
 use Rattle.lists.proofs.Bools.{cases}
 use Rattle.kind.specs.Kind.{begins, stands}
@@ -16,7 +15,7 @@ use Rattle.matcher.specs.Matcher.{backwards, start, step, steps, seen}
 use Rattle.matcher.specs.Reading.{reads}
 use Rattle.matcher.specs.Search.{behindFirst}
 use Rattle.matcher.proofs.Standing.{plain, enough, begins-split, stands-reverse, behind-none, behind-end}
-use Rattle.matcher.proofs.Reading.{reads-stop, reads-one, reads-steps}
+use Rattle.matcher.proofs.Reading.{reads-stop, reads-one}
 
 -- the matcher behind the bytes r, newest first
 pub record Knows (m : Matcher) (r : List ℕ) : Type 0 where
@@ -53,7 +52,7 @@ module _ (b : ℕ) (l r : List ℕ) (same : l ≡ take 9 (r ++ replicate 9 0)) w
   unfolding stands
   shows-either q t {a} h k i j e = rw (e, one q h k, one t i j) (shuffle (stands q r) (stands t r) (begins q (b ∷ r)) (begins t (b ∷ r)))
 
-pub knows-step : (m : Matcher) (r : List ℕ) (b : ℕ) → Knows m r → Knows (step m b) (b ∷ r)
+knows-step : (m : Matcher) (r : List ℕ) (b : ℕ) → Knows m r → Knows (step m b) (b ∷ r)
 unfolding step backwards
 knows-step m r b k =
     record {
@@ -64,7 +63,7 @@ knows-step m r b k =
       last = ap (λ (l : List ℕ). b ∷ l) (ap (take 8) (k .last) ∙ take-take 8 9 (r ++ replicate 9 0) (omega arith));
     }
 
-pub knows-steps : (m : Matcher) (r s : List ℕ) → Knows m r → Knows (steps m s) (reverseAux s r)
+knows-steps : (m : Matcher) (r s : List ℕ) → Knows m r → Knows (steps m s) (reverseAux s r)
 unfolding steps
 knows-steps m r [] k = k
 knows-steps m r (b ∷ s) k = knows-steps (step m b) (b ∷ r) s (knows-step m r b k)

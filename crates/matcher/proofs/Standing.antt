@@ -13,13 +13,13 @@ use Rattle.kind.specs.Kind.{begins, stands}
 use Rattle.matcher.specs.Search.{behindFirst}
 
 -- what lies behind a text's front
-pub begins-front : (p s t : List ℕ) → length p ≤ length s → begins p (s ++ t) ≡ begins p s
+begins-front : (p s t : List ℕ) → length p ≤ length s → begins p (s ++ t) ≡ begins p s
 unfolding begins
 begins-front [] s t h = refl
 begins-front (b ∷ p) [] t h = absurd (omega arith)
 begins-front (b ∷ p) (c ∷ s) t h = rw (begins-front p s t (omega arith))
 
-pub begins-take : (p s : List ℕ) (n : ℕ) → length p ≤ n → begins p (take n s) ≡ begins p s
+begins-take : (p s : List ℕ) (n : ℕ) → length p ≤ n → begins p (take n s) ≡ begins p s
 unfolding begins
 begins-take [] s n h = refl
 begins-take (b ∷ p) s zero h = absurd (omega arith)
@@ -49,7 +49,7 @@ pub enough : (q : List ℕ) (b : ℕ) (r : List ℕ) → length q ≤ 10 → pla
 enough q b r h k = begins-take q (b ∷ (r ++ replicate 9 0)) 10 h ∙ begins-zeros q (b ∷ r) 9 k
 
 -- a text that begins with p, and one in which p stands
-pub begins-own : (p t : List ℕ) → begins p (p ++ t) ≡ true
+begins-own : (p t : List ℕ) → begins p (p ++ t) ≡ true
 unfolding begins
 begins-own [] t = refl
 begins-own (b ∷ p) t = rw (eq-eqb b b refl) (begins-own p t)
@@ -62,12 +62,12 @@ begins-split (b ∷ p) (c ∷ s) h =
     cases (eqb b c) (λ e. rw (eqb-true b c e) (ap (λ (l : List ℕ). c ∷ l) (begins-split p s (rw e at h))))
     (λ e. let z : _≡_ {A = Bool} false true = rw e at h in cc)
 
-pub record Standing (p s : List ℕ) : Type 0 where
+record Standing (p s : List ℕ) : Type 0 where
   pub front : List ℕ
   pub behind : List ℕ
   pub is : s ≡ front ++ (p ++ behind)
 
-pub standing : (p s : List ℕ) → stands p s ≡ true → Standing p s
+standing : (p s : List ℕ) → stands p s ≡ true → Standing p s
 unfolding stands
 standing p [] h = record { front = []; behind = []; is = let e : _≡_ {A = Bool} false true = h in cc }
 standing p (c ∷ s) h =
@@ -75,7 +75,7 @@ standing p (c ∷ s) h =
     (λ e. record { front = []; behind = drop (length p) (c ∷ s); is = begins-split p (c ∷ s) e })
     (λ e. let w = standing p s (rw e at h) in record { front = c ∷ w .front; behind = w .behind; is = ap (λ (l : List ℕ). c ∷ l) (w .is) })
 
-pub stands-in : (p u v : List ℕ) → 0 < length p → stands p (u ++ (p ++ v)) ≡ true
+stands-in : (p u v : List ℕ) → 0 < length p → stands p (u ++ (p ++ v)) ≡ true
 unfolding stands
 stands-in [] u v h = absurd (omega arith)
 stands-in (b ∷ p) [] v h = rw (begins-own (b ∷ p) v)

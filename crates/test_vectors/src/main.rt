@@ -1,5 +1,9 @@
 // Vectors of the image's side, each with its answer: what a reader holds against a book or another program.
 mod crcs;
+mod orders;
+mod pieces;
+mod places;
+mod searches;
 
 use file_sizes::SaveFit;
 use kind::SaveType;
@@ -23,7 +27,7 @@ fn print_bytes(s: &[u8]) {
     }
 }
 
-fn print_kind(kind: SaveType) {
+pub fn print_kind(kind: SaveType) {
     match kind {
         SaveType::None => print(b"None"),
         SaveType::Sram => print(b"Sram"),
@@ -34,7 +38,7 @@ fn print_kind(kind: SaveType) {
     }
 }
 
-fn put(image: &mut [u8], place: usize, text: &[u8])
+pub fn put(image: &mut [u8], place: usize, text: &[u8])
     requires { ⌜ place + length (now text) ≤ length (now image) ⌝ }
 {
     lists::copy(&mut image[place..], text);
@@ -54,21 +58,6 @@ fn title(bytes: &[u8])
     io::print_decimal(1, answer.value as u64);
     print(b" ");
     print_bytes(&destination);
-    print(b"\n");
-}
-
-// An image of 256 zeros with a text at a place, and its kind.
-fn image_with(place: usize, text: &[u8])
-    requires { ⌜ place + length (now text) ≤ 256 ⌝ }
-{
-    let mut image = [0u8; 256];
-    put(&mut image, place, text);
-    print(b"kind ");
-    print(text);
-    print(b" at ");
-    io::print_decimal(1, place as u64);
-    print(b": ");
-    print_kind(kind::detect_save_type(&image));
     print(b"\n");
 }
 
@@ -128,39 +117,13 @@ fn titles() {
     title(b"\0\0\0\0\0\0\0\0\0\0\0\0");
 }
 
-// Markers at both ends and one byte off, their order, game codes and the title.
-fn markers() {
-    image_with(0, b"SRAM_V");
-    image_with(250, b"SRAM_V");
-    image_with(251, b"SRAM_");
-    image_with(1, b"RAM_V");
-    image_with(100, b"SRASRAM_V");
-    image_with(0, b"FLASH_V");
-    image_with(246, b"FLASH512_V");
-    image_with(247, b"FLASH512_");
-    image_with(247, b"FLASH1M_V");
-    image_with(248, b"EEPROM_V");
-    image_with(0, b"EEPROM_VFLASH1M_VFLASH_VSRAM_V");
-    image_with(0, b"EEPROM_VFLASH1M_VFLASH512_V");
-    image_with(0, b"EEPROM_VFLASH1M_V");
-    image_with(0xAC, b"GBXPEEPROM_V");
-    image_with(0xAC, b"GBXJ");
-    image_with(0xAC, b"GBXE");
-    image_with(0xAC, b"GBXK");
-    image_with(0xAB, b"GBXE");
-    image_with(0xAC, b"GB4PSRAM_V");
-    image_with(0xAC, b"GB4J");
-    image_with(0xAC, b"GB4E");
-    image_with(0xA0, b"POKEMON RUBY");
-    image_with(0xA0, b"POKEMON RUBYEEPROM_V");
-    image_with(0xA0, b"POKEMON RUB");
-    image_with(0x9F, b"POKEMON RUBY");
-}
-
 fn main() {
     crcs::crcs();
     titles();
-    markers();
+    searches::searches();
+    orders::orders();
+    places::places();
+    pieces::pieces();
     sizes(SaveType::None);
     sizes(SaveType::Sram);
     sizes(SaveType::Flash64);

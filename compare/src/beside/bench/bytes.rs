@@ -1,57 +1,17 @@
-//! Time per image, file and erase.
+//! Time per file and erase.
 
 use super::placed::at_lines;
-use super::{answered, is_wanted, long_row, row, stored, used};
+use super::{row, stored, used};
 use crate::part::Part;
-use crate::part_image;
 use compare::files::file;
-use compare::images::{image, of_kind, LARGEST, SMALLEST};
+use compare::images::of_kind;
 use compare::kind::{self, MEMORY};
 use compare::original;
 use std::hint::black_box;
 
 pub fn rows() {
-    images();
     files();
     erases();
-}
-
-/// 32 MiB with the marker near the end, where most stand. The original's opening takes the CRC too. An image takes long to make, and is
-/// made only if it is wanted.
-fn images() {
-    for (name, marker) in [("SRAM_V", "SRAM_V"), ("EEPROM_V", "EEPROM_V"), ("no marker", "")] {
-        let rows = ["opening", "opening and CRC", "kind"].map(|what| format!("{what}, 32 MiB, {name}"));
-        if !rows.iter().any(|row| is_wanted(row)) {
-            continue;
-        }
-        let image = image(LARGEST, 7, LARGEST - 64, marker.as_bytes());
-        let memory = MEMORY[usize::from(original::detect_save_type(&image))];
-        let [opening, opening_and_crc, kind] = &rows;
-        long_row(opening, || used(original::open(&image)), || used(Part::open(&image, memory)));
-        long_row(
-            opening_and_crc,
-            || used(original::open(&image)),
-            || used((Part::open(&image, memory), part_image::rom_crc(&image))),
-        );
-        long_row(kind, || used(original::detect_save_type(&image)), || used(part_image::detect_save_type(&image)));
-    }
-    if is_wanted("CRC, 32 MiB") {
-        let image = image(LARGEST, 7, 0, b"");
-        long_row("CRC, 32 MiB", || used(original::crc32(&image)), || used(part_image::rom_crc(&image)));
-    }
-    short_crc();
-}
-
-/// The shortest image, in batches that take less than a round.
-fn short_crc() {
-    const CALLS: u32 = 256;
-    let image = image(SMALLEST, 7, 0, b"");
-    row(
-        "CRC, 192 bytes",
-        CALLS,
-        || (0..CALLS).for_each(|_| used(original::crc32(black_box(&image)))),
-        || (0..CALLS).for_each(|_| used(answered(part_image::rom_crc(black_box(&image))))),
-    );
 }
 
 /// Cartridges of one side that take turns: in which pages a memory lies moves the time of a copy by some hundredths.

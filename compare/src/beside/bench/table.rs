@@ -29,15 +29,14 @@ fn print_row(row: &Row, parts: &mut [Link], befores: &mut [Link]) {
         progress(&format!("{}, turn {turn} of {}", row.name, row.turns));
         for (link, part) in parts.iter_mut().enumerate() {
             part.time(row);
-            if let Some(before) = befores.get_mut(link) {
+            if let Some(before) = befores.get_mut(link).filter(|before| before.has_calls()) {
                 before.time(row);
             }
         }
     }
     progress("");
-    let times = |links: &[Link]| links.iter().map(Link::times).collect::<Vec<_>>();
-    let (part, before) = (times(parts), times(befores));
-    println!("| {} |{}{}", row.name, cells(&part), before_cells(&part, &before));
+    let part: Vec<Times> = parts.iter().map(Link::times).collect();
+    println!("| {} |{}{}", row.name, cells(&part), before_cells(&part, befores));
 }
 
 /// The medians over the links and their ratio, and the least and the largest ratio of one link.
@@ -48,12 +47,16 @@ fn cells(times: &[Times]) -> String {
     format!(" {} | {} | {:.2} | {least:.2} | {largest:.2} |", length(original), length(part), part / original)
 }
 
-/// The earlier part's median, and the part's ratio to it.
-fn before_cells(part: &[Times], before: &[Times]) -> String {
-    if before.is_empty() {
+/// The earlier part's median, and the part's ratio to it; hyphens if it lacks the row's calls.
+fn before_cells(part: &[Times], befores: &[Link]) -> String {
+    let before: Vec<Times> = befores.iter().filter(|link| link.has_calls()).map(Link::times).collect();
+    if befores.is_empty() {
         return String::new();
     }
-    let (part, before) = (median_part(part), median_part(before));
+    if before.is_empty() {
+        return " - | - |".into();
+    }
+    let (part, before) = (median_part(part), median_part(&before));
     format!(" {} | {:.2} |", length(before), part / before)
 }
 

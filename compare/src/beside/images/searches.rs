@@ -18,7 +18,7 @@ const CODE: std::ops::Range<usize> = 0xAC..0xB0;
 const TITLE: usize = 0xA0;
 const RUBY: &[u8] = b"POKEMON RUBY";
 
-/// What holds a marker, or nearly one, where a search that starts anew too late or too early goes wrong.
+/// Texts that hold a marker after its own beginning or another's, several markers, or nearly one.
 const TRAPS: [&[u8]; 20] = [
     b"FLASRAM_V",
     b"FLASHSRAM_V",
@@ -42,11 +42,13 @@ const TRAPS: [&[u8]; 20] = [
     b"_V_V_V_V",
 ];
 
-/// The part passes over 32 bytes at a time, and steps over one where it finds `_V`: lengths and places with every remainder.
+/// The part passes over 32 bytes in which there is no `_V`, and else steps over one: lengths and places with every remainder.
 const LENGTHS: std::ops::RangeInclusive<usize> = SMALLEST..=SMALLEST + 66;
 const FIRST_PLACES: usize = 70;
 const FILLERS: [u8; 5] = [0, b'_', b'V', b'S', 0xFF];
 const LONGER: usize = 1_100;
+/// The markers' letters.
+const LETTERS: &[u8] = b"SRAM_VFLH512EPO";
 const LETTER_IMAGES: u32 = 8_000;
 const LONGEST_OF_LETTERS: usize = 2_000;
 /// Longer images are not fed byte by byte.
@@ -114,9 +116,9 @@ fn orders(run: &mut Run, random: &mut Random) {
     }
 }
 
-/// Game codes and the title, with every marker before and after them. The last code is none.
+/// Game codes and the title, with every marker before and after them. The last two codes are none that decide.
 fn headers(run: &mut Run, random: &mut Random) {
-    run.at("searches behind game codes".into());
+    run.at("searches with game codes".into());
     for code in CODES.into_iter().chain([&b"GBXX"[..], b"AXVE"]) {
         for marker in MARKERS.into_iter().chain([&b""[..]]) {
             for title in [RUBY, b"POKEMON RUBX", b""] {
@@ -136,14 +138,14 @@ fn letters(run: &mut Run, random: &mut Random) {
     run.at("searches of letters".into());
     for _ in 0..LETTER_IMAGES {
         let length = SMALLEST + random.below((LONGEST_OF_LETTERS - SMALLEST + 1) as u64) as usize;
-        let mut image: Vec<u8> = (0..length).map(|_| random.pick(b"SRAM_VFLH512EPO")).collect();
-        // Markers that come first when several are there are left out of some images: they would hide the others.
+        let mut image: Vec<u8> = (0..length).map(|_| random.pick(LETTERS)).collect();
+        // The markers that decide first are left out of some images: they would hide the others.
         let markers = &MARKERS[random.below(5) as usize..];
         for _ in 0..random.below(8) {
             let mut text = random.pick(markers).to_vec();
             if random.one_in(2) {
                 let place = random.below(text.len() as u64) as usize;
-                text[place] = random.pick(b"SRAM_VFLH512EPO");
+                text[place] = random.pick(LETTERS);
             }
             put(&mut image, random.below(length as u64) as usize, &text);
         }
@@ -164,7 +166,7 @@ fn image(length: usize, filler: u8, place: usize, text: &[u8]) -> Vec<u8> {
 struct Expected<'a> {
     image: &'a [u8],
     kind: u32,
-    /// The place just behind the first SRAM_V.
+    /// The place just after the first SRAM_V.
     sram_end: Option<usize>,
     matcher: abi::Matcher,
 }
@@ -254,7 +256,7 @@ fn compare_bytes(run: &Run, when: &str, expected: abi::Matcher, matcher: &part::
     }
 }
 
-/// An image of a length that no image has: question 1.
+/// An image that is too short or too long: question 1.
 pub fn refused(run: &mut Run, image: &[u8]) {
     let (kind, handed) = part::search(image);
     held(run, "search", Answer::refusal(1), kind);

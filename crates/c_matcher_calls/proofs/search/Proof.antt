@@ -1,5 +1,4 @@
 -- `c_matcher_calls::search` meets its contract. Assumes nothing.
-use mathlib.Core.Path.{ap, _∙_}
 use native.Mathlib.Omega.{arith}
 use Rattle.lists.proofs.Bools.{denied, granted}
 use Rattle.kind.proofs.Numbers.{kind-lt}

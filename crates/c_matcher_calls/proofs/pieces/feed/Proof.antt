@@ -1,6 +1,5 @@
 -- `c_matcher_calls::pieces::feed` meets its contract. Assumes nothing.
 use mathlib.Core.Path.{ap, _∙_}
-use native.Mathlib.Omega.{arith}
 use Rattle.lists.proofs.Bools.{denied, granted}
 use Rattle.matcher.specs.declared.Matcher.{Matcher}
 use Rattle.matcher.specs.declared.Fed.{Fed}
