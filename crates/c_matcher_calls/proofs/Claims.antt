@@ -2,7 +2,7 @@
 use mathlib.Core.Path.{_≡_, refl, sym, ap, _∙_}
 use mathlib.Core.Bool.{true, _&&_}
 use mathlib.Core.List.{List, [], _∷_, _++_, flatten}
-use Prim.Native.Nat.{ℕ, _≤_}
+use Prim.Native.Nat.{ℕ}
 use native.Mathlib.Omega.{arith}
 use lib.Dec.{leb, eqb}
 use lib.ListN.{length, getD}
@@ -10,20 +10,19 @@ use lib.Seq.{drop-cons}
 use borrow.Author.Tests.{eqb-true, eq-eqb, le-leb}
 use Rattle.lists.specs.Lists.{bit}
 use Rattle.lists.proofs.Bools.{and-left, and-right, bit-le, bit-back, bit-forth}
-use Rattle.image.specs.Image.{imageLength}
 use Rattle.kind.specs.Kind.{marker, detectSaveType}
 use Rattle.matcher.specs.declared.Matcher.{Matcher}
 use Rattle.matcher.specs.declared.Fed.{Fed}
 use Rattle.matcher.specs.Matcher.{start}
 use Rattle.matcher.specs.Reading.{reads, fedAll}
-use Rattle.matcher.specs.Search.{found, headerOf, kindAfter}
-use Rattle.matcher.proofs.Deciding.{header-kind, read-sram}
+use Rattle.matcher.specs.Search.{kindAfter}
+use Rattle.matcher.proofs.Deciding.{header-kind, read-sram, read-kind}
 use Rattle.matcher.proofs.Pieces.{joined, all-joined, all-nine}
-use Rattle.matcher.proofs.Claims.{in-pieces}
+use Rattle.matcher.proofs.Reading.{reads-stop}
 use Rattle.out_params.specs.Places.{kindAnswer}
 use Rattle.c_matcher_calls.specs.MatcherBytes.{matcherSize, matcherBytes, matcherOf, isMatcher}
 use Rattle.c_matcher_calls.specs.Calls.{starts, feeds, finishes}
-use Rattle.c_matcher_calls.specs.Claims.{fedPieces, PieceCalls}
+use Rattle.c_matcher_calls.specs.Claims.{fedPieces, Ends, PieceCalls}
 
 -- to bytes and back
 module _ (m : Matcher) (h : length (m .last) ≡ 9) where
@@ -99,13 +98,27 @@ module _ (pieces : List (List ℕ)) where
       ∙ ap (λ (f : Fed). f .matcher .sram) (joined start (flatten pieces) piece)
       ∙ read-sram (flatten pieces ++ piece)
 
-  ends : (image header : List ℕ) → flatten pieces ≡ image → imageLength (length image) ≡ true → 192 ≤ length header → headerOf header ≡ headerOf image
-      → finishes (fedPieces (starts .1) pieces) header (length image) ≡ kindAnswer image
-  unfolding finishes kindAnswer found
-  ends image header e l h t =
-      let k : kindAfter header (length image) matcher ≡ detectSaveType image =
-      sym (header-kind header (length image) matcher) ∙ ap (λ (s : List ℕ). kindAfter s (length image) matcher) t ∙ in-pieces .kind image pieces e in
+  -- where the matcher is that of the whole image, so is the kind
+  ends : (image header : List ℕ) → matcher ≡ reads start image .matcher → Ends image pieces header
+  unfolding finishes kindAnswer
+  ends image header same l h t =
+      let n = length image in
+      let k : kindAfter header n matcher ≡ detectSaveType image =
+      sym (header-kind header n matcher) ∙ ap (λ (s : List ℕ). kindAfter s n matcher) t ∙ header-kind image n matcher
+      ∙ ap (kindAfter image n) same
+      ∙ read-kind image in
       rw (bytes, l, le-leb 192 (length header) h, is-own matcher nine, own-back matcher nine, k)
+
+  at-end : (image : List ℕ) → flatten pieces ≡ image → matcher ≡ reads start image .matcher
+  at-end image e = ap (λ (f : Fed). f .matcher) (all-joined start pieces) ∙ ap (λ (s : List ℕ). reads start s .matcher) e
+
+  before-end : (image rest : List ℕ) → flatten pieces ++ rest ≡ image → marker (flatten pieces) "SRAM_V" ≡ true → matcher ≡ reads start image .matcher
+  before-end image rest e seen =
+      let f = reads start (flatten pieces) in
+      ap (λ (x : Fed). x .matcher) (all-joined start pieces)
+      ∙ ap (λ (x : Fed). x .matcher) (sym (reads-stop (f .matcher) rest (read-sram (flatten pieces) ∙ seen)))
+      ∙ ap (λ (x : Fed). x .matcher) (joined start (flatten pieces) rest)
+      ∙ ap (λ (s : List ℕ). reads start s .matcher) e
 
 pub piece-calls : PieceCalls
 piece-calls =
@@ -113,5 +126,6 @@ piece-calls =
       written = λ m h. (is-own m h, own-back m h);
       read = bytes-back;
       next = λ pieces piece d. (ap (λ (x : ℕ × List ℕ × ℕ). x .0) (fed pieces piece d), ap (λ (x : ℕ × List ℕ × ℕ). x .2) (fed pieces piece d) ∙ ap bit (told pieces piece));
-      end = λ image pieces header e l h t. ends pieces image header e l h t;
+      end = λ image pieces header e. ends pieces image header (at-end pieces image e);
+      early = λ image pieces rest header e s. ends pieces image header (before-end pieces image rest e s);
     }
