@@ -42,7 +42,7 @@ fn at_most_32(n: usize) -> usize
 }
 
 // From the front of a part: bytes without _V at once, or up to 32 bytes one by one. `over_bytes` is called at this one
-// place: the compiler then keeps the last nine bytes in registers.
+// place: the compiler then inlines it and keeps the last bytes in registers.
 fn advance(m: Matcher, part: &[u8]) -> Fed
     requires { ⌜ (m .sram ≡ false) × (0 < length (now part)) ⌝ }
     ensures { λ r. ⌜ Advanced m (now (part .entry)) r ⌝ }
