@@ -5,8 +5,8 @@ ghost use Prim.Native.Nat.{_≤_};
 ghost use lib.ListN.{length, drop, getD};
 ghost use Rattle.matcher.specs.Quiet.{pairs, Quiet, after};
 
-// Whether a _ is followed by a V in 33 bytes. The loop has a fixed length and no exit, so the compiler makes vector code
-// of it.
+// Whether a _ is followed by a V in 33 bytes. The loop has a fixed length and no exit, so the compiler makes vector
+// code of it.
 fn pair_in(w: &[u8]) -> bool
     requires { ⌜ length (now w) ≡ 33 ⌝ }
     ensures { λ r. ⌜ r ≡ pairs (getD (now (w .entry)) 0 0) (drop 1 (now (w .entry))) ⌝ }
