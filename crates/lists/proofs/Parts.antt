@@ -3,11 +3,11 @@ use mathlib.Core.Path.{_≡_, refl, sym, ap, subst, _∙_}
 use mathlib.Core.Bool.{cond, _&&_}
 use mathlib.Core.List.{List, [], _∷_, _++_, append-nil}
 use Prim.Native.Nat.{ℕ, zero, suc, _+_, _-_, _≤_, _<_}
-use native.Mathlib.Nat.{zero-add, suc-add, add-suc}
+use native.Mathlib.Nat.{zero-add, suc-add, add-suc, sub-zero, zero-sub, suc-sub-suc}
 use native.Mathlib.Numerals.{add-one}
 use native.Mathlib.Omega.{arith}
 use lib.Dec.{eqb, leb, ltb}
-use lib.ListN.{length, getD, set, take, drop, length-append, length-take, length-drop, take-append-drop}
+use lib.ListN.{length, getD, set, take, drop, replicate, length-append, length-take, length-drop, take-append-drop}
 use lib.Seq.{sets, sets-eq, drop-length, take-nil, take-all, take-length, slice, slice-cons, slice-empty, drop-at, drop-append-le, take-append-le, drop-cons, getD-set-same, getD-set-other, drop-append-add, getD-append-add, getD-take, getD-drop, drop-drop, length-take-le, take-append-seam}
 use borrow.Author.Tests.{leb-true, leb-false, ltb-true, ltb-false, eqb-true, eqb-false, eq-eqb, ne-eqb}
 use Rattle.lists.proofs.Bools.{cases}
@@ -185,3 +185,9 @@ fold-on f x l i t h k = rw (slice-cons i t l 0 h k, add-one i)
 pub fold-end : (f : ℕ → ℕ → ℕ) (x : ℕ) (l : List ℕ) (i t : ℕ) → i ≡ t → fold f x (slice i t l) ≡ x
 unfolding fold
 fold-end f x l i t e = rw (e, slice-empty t l)
+
+-- what lies from place i on of the same value everywhere
+pub drop-replicate : (i n x : ℕ) → drop i (replicate n x) ≡ replicate (n - i) x
+drop-replicate zero n x = ap (λ (k : ℕ). replicate k x) (sym (sub-zero n))
+drop-replicate (suc i) zero x = ap (λ (k : ℕ). replicate k x) (sym (zero-sub (suc i)))
+drop-replicate (suc i) (suc n) x = drop-replicate i n x ∙ ap (λ (k : ℕ). replicate k x) (sym (suc-sub-suc n i))
