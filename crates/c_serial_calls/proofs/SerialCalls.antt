@@ -9,7 +9,7 @@ use lib.ListN.{length}
 use Rattle.lists.specs.Questions.{_else_, asked}
 use Rattle.lists.proofs.Bools.{either}
 use Rattle.memory.specs.Memory.{stored, stores, withCount}
-use Rattle.memory.proofs.Counts.{differing-same}
+use Rattle.counts.proofs.Counts.{differing-same}
 use Rattle.kind.specs.Kind.{memorySize, usesEeprom}
 use Rattle.eeprom.specs.declared.Eeprom.{Eeprom}
 use Rattle.eeprom.specs.declared.Shifted.{Shifted}

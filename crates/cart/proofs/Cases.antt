@@ -1,6 +1,8 @@
 -- The twelve marked cases, computed of the definitions. Assumes nothing.
 use mathlib.Core.Path.{refl}
 use Rattle.lists.specs.Lists.{fold, lowFirst}
+use Rattle.counts.specs.Counts.{used}
+use Rattle.counts.specs.Tallies.{retally, retallied}
 use Rattle.memory.specs.Memory.{erased, stored, filled}
 use Rattle.image.specs.Image.{imageLength, less, headerSum, headerChecksum}
 use Rattle.kind.specs.Kind.{begins, stands, detectSaveType}
@@ -16,7 +18,7 @@ use Rattle.cart.specs.Cases.{Cases}
 use Rattle.cart.proofs.FlashCommands.{no-erase}
 
 pub cases-hold : Cases
-unfolding fold lowFirst erased stored filled imageLength less headerSum headerChecksum begins stands detectSaveType partOf partFits chipSize saveFit stateAllowed widthAllowed w tells6 tells14 beginDma dmaQuestion shiftIn opcodePhase turned writeBit phaseOf chipBytes chipOf fieldQuestions recordAllowed freshCart fresh fromBytes bitIn load questions accepted step restore calls
+unfolding used retally retallied fold lowFirst erased stored filled imageLength less headerSum headerChecksum begins stands detectSaveType partOf partFits chipSize saveFit stateAllowed widthAllowed w tells6 tells14 beginDma dmaQuestion shiftIn opcodePhase turned writeBit phaseOf chipBytes chipOf fieldQuestions recordAllowed freshCart fresh fromBytes bitIn load questions accepted step restore calls
 cases-hold =
     record {
       a = (refl, refl, refl);

@@ -12,9 +12,11 @@ use Rattle.lists.proofs.Bools.{split, either}
 use Rattle.lists.proofs.Questions.{AllYes}
 use Rattle.memory.specs.declared.Store.{Store}
 use Rattle.memory.specs.declared.Store.the-variants.{Nothing}
-use Rattle.memory.specs.Memory.{stored, differing, Fits, most}
+use Rattle.counts.specs.Counts.{differing}
+use Rattle.memory.specs.Memory.{stored, Fits, most}
 use Rattle.memory.proofs.Memory.{length-filled}
-use Rattle.memory.proofs.Counts.{differing-le, differing-same, differing-0, length-stored, most-stored}
+use Rattle.counts.proofs.Counts.{differing-le, differing-same, differing-0}
+use Rattle.memory.proofs.Counts.{length-stored, most-stored}
 use Rattle.kind.specs.Kind.{memorySize}
 use Rattle.kind.proofs.Sizes.{memory-small}
 use Rattle.file_sizes.specs.SaveFit.{keptPart}
@@ -52,7 +54,7 @@ accepted-fits (eepromBeginDma words) d s y = tt
 accepted-fits (eepromWrite v) d s y =
     let n = eqb-true (length (s .memory)) (memorySize (s .cart .kind)) (y .1 .0) in
     let b = allowed-bounds (s .cart) (y .0) .blockOk in
-    write-fits (length (s .memory)) (s .cart .chip .eeprom) (v % 2) (omega (arith, n, b, eeprom-size (s .cart .kind) (y .1 .1 .0)))
+    write-fits (length (s .memory)) (s .cart .chip .eeprom) (v % 2) (omega (arith, n, b, eeprom-size (s .cart .kind) (y .1 .1 .1 .0)))
 accepted-fits eepromRead d s y = tt
 accepted-fits (loadSave f) d s y =
     omega (arith, eqb-true (length (s .memory)) (memorySize (s .cart .kind)) (y .1 .0), memory-small (s .cart .kind))

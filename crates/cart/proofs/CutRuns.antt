@@ -92,17 +92,18 @@ recoverable-flag image part dirty s r =
       kindIs = r .kindIs;
       partIs = r .partIs;
       tail = r .tail;
+      right = r .right;
     }
 
 -- any number of cuts
-cuts-kept : (image : List ℕ) (part : ℕ) (memory : List ℕ) (n : ℕ) (s : State) → fromBytes image part memory .refusal ≡ 0 → Recoverable image part s
-    → (quiet (cuts image part memory n s) ≡ quiet s) × Recoverable image part (cuts image part memory n s)
+cuts-kept : (image : List ℕ) (part : ℕ) (memory tallies : List ℕ) (n : ℕ) (s : State) → fromBytes image part memory tallies .refusal ≡ 0 → Recoverable image part s
+    → (quiet (cuts image part memory tallies n s) ≡ quiet s) × Recoverable image part (cuts image part memory tallies n s)
 unfolding cuts
-cuts-kept image part memory zero s h r = (refl, r)
-cuts-kept image part memory (suc n) s h r =
-    let q : cut image part memory s ≡ quiet s = cut-quiet image part memory s h r in
-    let k : Recoverable image part (cut image part memory s) = rw q (recoverable-flag image part false s r) in
-    let i = cuts-kept image part memory n (cut image part memory s) h k in
+cuts-kept image part memory tallies zero s h r = (refl, r)
+cuts-kept image part memory tallies (suc n) s h r =
+    let q : cut image part memory tallies s ≡ quiet s = cut-quiet image part memory tallies s h r in
+    let k : Recoverable image part (cut image part memory tallies s) = rw q (recoverable-flag image part false s r) in
+    let i = cuts-kept image part memory tallies n (cut image part memory tallies s) h k in
     (i .0 ∙ ap quiet q, i .1)
 
 -- what a cut leaves does not show the flag
@@ -116,20 +117,20 @@ abbrev NoByteWrites : SaveType → List Turn → Type 0
 NoByteWrites kind list = (a v : ℕ) → List·Memᴰ (saveWrite a v) (map (λ t. t .call) list) → usesEeprom kind ≡ false
 
 -- s goes through the list with its cuts, t without
-runs-same : (image : List ℕ) (part : ℕ) (memory : List ℕ) (list : List Turn) (s t : State) → fromBytes image part memory .refusal ≡ 0 → NoByteWrites (detectSaveType image) list
-    → quiet s ≡ quiet t → Recoverable image part s → Recoverable image part t → run image part memory list s ≡ run image part memory (uncut list) t
+runs-same : (image : List ℕ) (part : ℕ) (memory tallies : List ℕ) (list : List Turn) (s t : State) → fromBytes image part memory tallies .refusal ≡ 0 → NoByteWrites (detectSaveType image) list
+    → quiet s ≡ quiet t → Recoverable image part s → Recoverable image part t → run image part memory tallies list s ≡ run image part memory tallies (uncut list) t
 unfolding run cuts
-runs-same image part memory [] s t h n e r q =
+runs-same image part memory tallies [] s t h n e r q =
     let l = left-same s t (r .sound) (q .sound) e in
-    λ i. record { calls = []; file = l .0 i; bytes = l .1 i }
-runs-same image part memory (x ∷ list) s t h n e r q =
+    λ i. record { calls = []; file = l .0 i; bytes = l .1 i; tallies = e i .tallies }
+runs-same image part memory tallies (x ∷ list) s t h n e r q =
     let c : Call = x .call in
     let d : List ℕ = x .destination in
     let w : NoByteWrite (detectSaveType image) c = λ a v p. n a v (List·Memᴰ·head p) in
     let o : unflagged (step c d s) ≡ unflagged (step c d t) = step-same c d s t e in
-    let k = cuts-kept image part memory (x .cutsBehind) (step c d s .next) h (recoverable-step image part c d s w r) in
-    let i : run image part memory list (cuts image part memory (x .cutsBehind) (step c d s .next)) ≡ run image part memory (uncut list) (step c d t .next) =
-    runs-same image part memory list (cuts image part memory (x .cutsBehind) (step c d s .next)) (step c d t .next) h (λ a v p. n a v (List·Memᴰ·tail p))
+    let k = cuts-kept image part memory tallies (x .cutsBehind) (step c d s .next) h (recoverable-step image part c d s w r) in
+    let i : run image part memory tallies list (cuts image part memory tallies (x .cutsBehind) (step c d s .next)) ≡ run image part memory tallies (uncut list) (step c d t .next) =
+    runs-same image part memory tallies list (cuts image part memory tallies (x .cutsBehind) (step c d s .next)) (step c d t .next) h (λ a v p. n a v (List·Memᴰ·tail p))
     (k .0 ∙ ap (λ (z : Outcome). z .next) o)
     (k .1)
     (recoverable-step image part c d t w q)
@@ -138,6 +139,6 @@ runs-same image part memory (x ∷ list) s t h n e r q =
 
 -- Demand 3
 pub cut-runs : CutRuns
-cut-runs image part memory list h n =
-    let r : Recoverable image part (fromBytes image part memory .next) = rw (opened image part memory h) (recoverable-fresh image part memory h) in
-    runs-same image part memory list (fromBytes image part memory .next) (fromBytes image part memory .next) h n refl r r
+cut-runs image part memory tallies list h n =
+    let r : Recoverable image part (fromBytes image part memory tallies .next) = rw (opened image part memory tallies h) (recoverable-fresh image part memory tallies h) in
+    runs-same image part memory tallies list (fromBytes image part memory tallies .next) (fromBytes image part memory tallies .next) h n refl r r

@@ -1,5 +1,5 @@
 -- GBATEK's flash commands through the machine. Assumes nothing.
-use mathlib.Core.Path.{_≡_, refl, ap, _∙_}
+use mathlib.Core.Path.{_≡_, refl, sym, ap, _∙_}
 use mathlib.Core.Bool.{true, false, cond}
 use mathlib.Core.List.{List, [], _∷_, _++_}
 use Prim.Native.Nat.{ℕ, _+_, _%_, _<_}
@@ -22,7 +22,8 @@ use Rattle.cart.specs.Calls.{saveRead, saveWrite, flashOf, withFlash, re
 use Rattle.cart.specs.Gbatek.{Ran, ran, calls, Usable, FlashPart, sst64K, macronix64K, panasonic64K, usual64K, sanyo128K, macronix128K, usual128K, writes, FlashClaim}
 use Rattle.cart.proofs.Fields.{allowed-bounds}
 use Rattle.cart.proofs.Sound.{place-lt, step-accepted}
-use Rattle.cart.proofs.Usable.{memory-yes, usable-step}
+use Rattle.cart.proofs.Tallies.{tallies-stay, tallies-again}
+use Rattle.cart.proofs.Usable.{memory-yes, tallies-yes, usable-step}
 use Rattle.cart.proofs.Runs.{then, nothing, calls-then, usable-on}
 
 write-part : {kind : SaveType} {part : Part} {maker device : ℕ} → FlashPart kind part maker device → (s : State) (a v : ℕ) → writeSave kind s a v ≡ withFlash s (writeByte (flashOf s) a v)
@@ -82,15 +83,17 @@ module _ {maker device : ℕ} where
   write-step : (s : State) (a v : ℕ) → FlashPart (s .cart .kind) (s .cart .part) maker device → Usable s → step (saveWrite a v) [] s ≡ counted s (outcome [] (withFlash s (writeByte (flashOf s) a v)) [])
   unfolding questions accepted
   write-step s a v f u =
-      step-accepted (saveWrite a v) [] s (u .valid, (memory-yes s u, tt)) ∙ ap (λ (t : State). counted s (outcome [] t [])) (write-part f s a v)
+      step-accepted (saveWrite a v) [] s (u .valid, (memory-yes s u, (tallies-yes s u, tt))) ∙ ap (λ (t : State). counted s (outcome [] t [])) (write-part f s a v)
 
   run-writes : (ws : List Write) (s : State) → FlashPart (s .cart .kind) (s .cart .part) maker device → Usable s → calls (writes ws) s ≡ ran [] (withFlash s (written ws (flashOf s)))
   unfolding written
-  run-writes [] s f u = nothing s
+  run-writes [] s f u = nothing s ∙ ap (ran []) (sym (tallies-stay s (u .words)))
   run-writes (w ∷ ws) s f u =
       let t : State = withFlash s (writeByte (flashOf s) (w .address) (w .value)) in
       let o = write-step s (w .address) (w .value) f u in
-      then (saveWrite (w .address) (w .value)) (writes ws) s o (run-writes ws t f (rw o at (usable-step (saveWrite (w .address) (w .value)) [] s u)))
+      then (saveWrite (w .address) (w .value)) (writes ws) s o
+      (run-writes ws t f (rw o at (usable-step (saveWrite (w .address) (w .value)) [] s u))
+      ∙ ap (ran []) (tallies-again s (t .memory) (withFlash s (written ws (flashOf t)))))
 
   shows : (s : State) → FlashPart (s .cart .kind) (s .cart .part) maker device → Usable s → s .cart .chip .flash .id ≡ false
       → (a : ℕ) → calls (saveRead a ∷ []) s ≡ ran (getD (s .memory) (placeOf (flashOf s) a) 0 ∷ []) s

@@ -2,6 +2,8 @@ pub mod ChipState
 pub mod Fields
 pub mod Replies
 pub mod Sound
+pub mod Changes
+pub mod Tallies
 pub mod Usable
 pub mod Recoverable
 pub mod Counts
@@ -11,6 +13,7 @@ pub mod Restore
 pub mod Flag
 pub mod Parts
 pub mod Reached
+pub mod Stretches
 pub mod Runs
 pub mod SramBytes
 pub mod FlashCommands

@@ -5,8 +5,7 @@ use mathlib.Core.List.{List, [], _∷_}
 use mathlib.Core.Option.{Option, none, some}
 use Prim.Native.Nat.{ℕ}
 use lib.Dec.{eqb}
-use Rattle.lists.specs.Questions.{Question, asked}
-use Rattle.lists.proofs.Bools.{either}
+use Rattle.lists.specs.Questions.{asked}
 use Rattle.kind.specs.declared.SaveType.{SaveType}
 use Rattle.kind.specs.declared.SaveType.the-variants.{None, Sram, Flash64, Flash128, Eeprom512, Eeprom8k}
 use Rattle.part.specs.declared.Part.{Part}
@@ -15,12 +14,14 @@ use Rattle.part.specs.Part.{partOf, partFits}
 use Rattle.flash.specs.declared.Flash.{Flash}
 use Rattle.byte_step.specs.ByteStep.{readByte}
 use Rattle.eeprom.specs.Eeprom.{bitIn}
-use Rattle.cart.specs.Record.{State, Outcome, guarded, outcome, counted, recordAllowed, freshCart, fresh}
+use Rattle.cart.specs.declared.ChipRecord.{ChipRecord}
+use Rattle.cart.specs.Record.{State, Outcome, outcome, counted, recordAllowed, freshCart, fresh}
 use Rattle.cart.specs.Calls.{Call, saveRead, saveWrite, eepromBeginDma, eepromWrite, eepromRead, loadSave, saveData, chipState, takeSaveDirty}
-use Rattle.cart.specs.Calls.{readSave, writeSave, load, fileOf, exported, questions, accepted, step, restoreQuestions, restore, importQuestions, importSave}
+use Rattle.cart.specs.Calls.{chipWith, stateWith, readSave, writeSave, load, fileOf, exported, questions, accepted, step}
 use Rattle.cart.specs.Gbatek.{Usable, sst64K, macronix64K, panasonic64K, usual64K, sanyo128K, macronix128K, usual128K, Listed}
 use Rattle.cart.specs.Claims.{withPart, outcomeWith, PartKept}
 use Rattle.cart.proofs.Sound.{opened}
+use Rattle.cart.proofs.Changes.{step-keeps, restore-keeps, import-keeps}
 use Rattle.cart.proofs.Usable.{to-fields}
 use Rattle.cart.proofs.Recoverable.{clash}
 
@@ -51,28 +52,15 @@ module _ (s : State) where
   listed-128 u k = fits-128 (s .cart .part) k refl (rw k at (to-fields s u .partOk))
 
 -- no call touches it
-export-part : (f : Option (List ℕ)) (d : List ℕ) (s : State) → exported f d s .next .cart .part ≡ s .cart .part
-export-part none d s = refl
-export-part (some f) d s = refl
+module _ (s : State) where
+  abbrev Same : State → Type 0
+  Same t = t .cart .part ≡ s .cart .part
 
-write-part : (kind : SaveType) (s : State) (a v : ℕ) → writeSave kind s a v .cart .part ≡ s .cart .part
-unfolding writeSave
-write-part kind s a v = refl
+  same-chip : (t : State) (dirty : Bool) (c : ChipRecord) → Same t → Same (chipWith t dirty c)
+  same-chip t dirty c e = e
 
-accepted-part : (c : Call) (d : List ℕ) (s : State) → accepted c d s .next .cart .part ≡ s .cart .part
-unfolding accepted load
-accepted-part (saveRead a) d s = refl
-accepted-part (saveWrite a v) d s = write-part (s .cart .kind) s a v
-accepted-part (eepromBeginDma words) d s = refl
-accepted-part (eepromWrite v) d s = refl
-accepted-part eepromRead d s = refl
-accepted-part (loadSave f) d s = refl
-accepted-part saveData d s = export-part (fileOf (s .cart .kind) s) d s
-accepted-part chipState d s = refl
-accepted-part takeSaveDirty d s = refl
-
-leaves : (qs : List Question) (d : List ℕ) (s : State) (o : Outcome) → o .next .cart .part ≡ s .cart .part → guarded qs d s o .next .cart .part ≡ s .cart .part
-leaves qs d s o h = either (λ (r : Outcome). r .next .cart .part ≡ s .cart .part) (eqb (asked qs) 0) h refl
+  same-memory : (t : State) (dirty : Bool) (c : ChipRecord) (m : List ℕ) → Same t → Same (stateWith t dirty c m)
+  same-memory t dirty c m e = e
 
 -- opening sets it
 fresh-part : (image : List ℕ) (p : Part) → fresh image p .cart .part ≡ p
@@ -148,12 +136,11 @@ module _ (p : Part) (s : State) where
       rw (questions-same c d (allowed-same e), accepted-same c d n) (either-same (eqb (asked (questions c d s)) 0) (counted s (accepted c d s)) _)
 
 pub part-kept : PartKept
-unfolding step restore importSave load
 part-kept =
     record {
-      opened = λ image part memory h. ap (λ (o : Outcome). o .next .cart .part) (opened image part memory h) ∙ fresh-part image (partOf part);
-      stays = λ c d s. leaves (questions c d s) d s (counted s (accepted c d s)) (accepted-part c d s);
-      restored = λ b s. leaves (restoreQuestions b s) [] s _ refl;
-      imported = λ f s. leaves (importQuestions f s) [] s _ refl;
+      opened = λ image part memory tallies h. ap (λ (o : Outcome). o .next .cart .part) (opened image part memory tallies h) ∙ fresh-part image (partOf part);
+      stays = λ c d s. step-keeps (Same s) (same-chip s) (same-memory s) c d s refl;
+      restored = λ b s. restore-keeps (Same s) (same-chip s) (same-memory s) b s refl;
+      imported = λ f s. import-keeps (Same s) (same-chip s) (same-memory s) f s refl;
       unseen = λ p c d s. unseen p s c d;
     }

@@ -3,7 +3,8 @@
 -- A state is recoverable if its file and its 18 bytes hold all that the next calls can see, but for the flag. The only file that leaves
 -- memory out is that of an EEPROM that is not large: 512 bytes of 8,192. Such a chip has seen addresses of 6 bits alone, so no write has
 -- reached past byte 511, and a load of more than 512 bytes would have made it large: what the file leaves out is erased, and loading
--- erases it again. A byte write to an EEPROM kind would break this, and demand 3 leaves it out.
+-- erases it again. A byte write to an EEPROM kind would break this, and demand 3 leaves it out. The tallies are those of the memory, so
+-- that opening and loading give them back.
 use mathlib.Core.Path.{_≡_, refl, sym, ap, subst, _∙_}
 use mathlib.Core.Bool.{Bool, true, false, _&&_}
 use mathlib.Core.List.{List, []}
@@ -28,6 +29,8 @@ use Rattle.eeprom.proofs.Sound as eeprom
 use Rattle.cart.specs.Record.{State, freshCart, fresh, fromBytes}
 use Rattle.cart.specs.Calls.{Call, saveRead, saveWrite, eepromBeginDma, eepromWrite, eepromRead, loadSave, saveData, chipState, takeSaveDirty}
 use Rattle.cart.specs.Calls.{eepromOf, withEeprom, writeSave, load, fileOf, exported, questions, accepted, step}
+use Rattle.cart.specs.Stretches.{TalliesRight}
+use Rattle.cart.proofs.Tallies.{right-accepted, right-fresh}
 use Rattle.cart.proofs.Sound.{Sound, sound-fresh, sound-accepted, step-next, eeprom-size}
 
 -- what the file of an EEPROM that is not large leaves out is erased
@@ -42,6 +45,7 @@ pub record Recoverable (image : List ℕ) (part : ℕ) (s : State) : Type 0 wher
   pub kindIs : s .cart .kind ≡ detectSaveType image
   pub partIs : s .cart .part ≡ partOf part
   pub tail : TailErased s
+  pub right : TalliesRight s
 
 pub clash : {A : Type 0} {b : Bool} → b ≡ false → b ≡ true → A
 clash p q = absurd (let z : _≡_ {A = ℕ} 0 1 = cc in omega arith)
@@ -106,6 +110,7 @@ recoverable-accepted image part (saveWrite a v) d s n r y =
       kindIs = k .1 ∙ r .kindIs;
       partIs = k .2 ∙ r .partIs;
       tail = λ q z. clash (n a v refl) (ap usesEeprom (sym (k .1 ∙ r .kindIs)) ∙ q);
+      right = right-accepted (saveWrite a v) d s (r .right);
     }
 recoverable-accepted image part (eepromBeginDma words) d s n r y =
     record {
@@ -114,6 +119,7 @@ recoverable-accepted image part (eepromBeginDma words) d s n r y =
       kindIs = r .kindIs;
       partIs = r .partIs;
       tail = λ q z. r .tail q (dma-large words (s .cart .chip .eeprom) z);
+      right = r .right;
     }
 recoverable-accepted image part (eepromWrite v) d s n r y =
     record {
@@ -121,7 +127,8 @@ recoverable-accepted image part (eepromWrite v) d s n r y =
       lenIs = r .lenIs;
       kindIs = r .kindIs;
       partIs = r .partIs;
-      tail = tail-bit s v (r .sound) (y .1 .1 .0) (r .tail);
+      tail = tail-bit s v (r .sound) (y .1 .1 .1 .0) (r .tail);
+      right = right-accepted (eepromWrite v) d s (r .right);
     }
 recoverable-accepted image part eepromRead d s n r y =
     record {
@@ -130,6 +137,7 @@ recoverable-accepted image part eepromRead d s n r y =
       kindIs = r .kindIs;
       partIs = r .partIs;
       tail = λ q z. r .tail q (sym (read-large (s .cart .chip .eeprom)) ∙ z);
+      right = r .right;
     }
 recoverable-accepted image part (loadSave f) d s n r y =
     record {
@@ -143,23 +151,25 @@ recoverable-accepted image part (loadSave f) d s n r y =
           ap (λ (n : ℕ). drop 512 (filled n f)) (r .sound .memoryOk)
           ∙ drop-filled (memorySize (s .cart .kind)) 512 f (omega (arith, eeprom-size (s .cart .kind) q))
           (ltb-false 512 (length f) (rw q at (or-true (e .large) b z .1)));
+      right = right-accepted (loadSave f) d s (r .right);
     }
 recoverable-accepted image part saveData d s n r y = subst (Recoverable image part) (sym (exported-next (fileOf (s .cart .kind) s) d s)) r
 recoverable-accepted image part chipState d s n r y = r
 recoverable-accepted image part takeSaveDirty d s n r y =
-    record { sound = sound-accepted takeSaveDirty d s y (r .sound); lenIs = r .lenIs; kindIs = r .kindIs; partIs = r .partIs; tail = r .tail }
+    record { sound = sound-accepted takeSaveDirty d s y (r .sound); lenIs = r .lenIs; kindIs = r .kindIs; partIs = r .partIs; tail = r .tail; right = r .right }
 
 pub recoverable-step : (image : List ℕ) (part : ℕ) (c : Call) (d : List ℕ) (s : State) → NoByteWrite (detectSaveType image) c → Recoverable image part s
     → Recoverable image part (step c d s .next)
 recoverable-step image part c d s n r = step-next (Recoverable image part) c d s (recoverable-accepted image part c d s n r) r
 
-pub recoverable-fresh : (image : List ℕ) (part : ℕ) (memory : List ℕ) → fromBytes image part memory .refusal ≡ 0 → Recoverable image part (fresh image (partOf part))
+pub recoverable-fresh : (image : List ℕ) (part : ℕ) (memory tallies : List ℕ) → fromBytes image part memory tallies .refusal ≡ 0 → Recoverable image part (fresh image (partOf part))
 unfolding fresh freshCart
-recoverable-fresh image part memory h =
+recoverable-fresh image part memory tallies h =
     record {
-      sound = sound-fresh image part memory h;
+      sound = sound-fresh image part memory tallies h;
       lenIs = refl;
       kindIs = refl;
       partIs = refl;
       tail = λ q z. drop-erased 512 (memorySize (detectSaveType image));
+      right = right-fresh image (partOf part);
     }

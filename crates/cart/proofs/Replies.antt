@@ -9,10 +9,10 @@ use borrow.Author.Tests.{ne-eqb, eqb-true}
 use Rattle.lists.specs.Questions.{Question, _else_, asked}
 use Rattle.lists.proofs.Questions.{AllYes, yes-all, asked-no, asked-yes}
 use Rattle.memory.specs.declared.Store.the-variants.{Nothing}
-use Rattle.kind.specs.Kind.{memorySize}
+use Rattle.kind.specs.Kind.{memorySize, tallyCount}
 use Rattle.cart.specs.declared.Cartridge.{Cartridge}
 use Rattle.cart.specs.Calls.{Call, questions, accepted, step}
-use Rattle.cart.specs.Record.{State, Outcome, guarded, refused, counted, recordAllowed, recordQuestion, doorNumber}
+use Rattle.cart.specs.Record.{State, Outcome, guarded, refused, counted, recordAllowed, recordQuestion, doorNumber, storeDoorNumber}
 use Rattle.cart.specs.Counts.{storeOf}
 use Rattle.cart.proofs.Counts.{accepted-kept}
 
@@ -55,3 +55,23 @@ module _ (c : Cartridge) (n : ℕ) where
 
   pub door-more : (more : List Question) (k : ℕ) → k ≡ doorNumber c n → k ≡ 0 → asked (door ++ more) ≡ asked more
   door-more more k e z = asked-yes door more (door-all k e z)
+
+-- questions 2, 3 and 16, likewise
+module _ (c : Cartridge) (n k : ℕ) where
+  abbrev pub storeDoor : List Question
+  storeDoor = recordQuestion c ∷ eqb n (memorySize (c .kind)) else 3 ∷ eqb k (tallyCount (c .kind)) else 16 ∷ []
+
+  pub store-door-no : (more : List Question) (r : ℕ) → r ≡ storeDoorNumber c n k → r ≢ 0 → r ≡ asked (storeDoor ++ more)
+  store-door-no more r e h = asked-no storeDoor more r e h
+
+  pub store-door-all : (r : ℕ) → r ≡ storeDoorNumber c n k → r ≡ 0 → AllYes storeDoor
+  store-door-all r e z = yes-all storeDoor refl (sym e ∙ z)
+
+  pub store-door-yes : (r : ℕ) → r ≡ storeDoorNumber c n k → r ≡ 0
+      → (recordAllowed c ≡ true) × (n ≡ memorySize (c .kind)) × (k ≡ tallyCount (c .kind))
+  store-door-yes r e z =
+      let y = store-door-all r e z in
+      (y .0, eqb-true n (memorySize (c .kind)) (y .1 .0), eqb-true k (tallyCount (c .kind)) (y .1 .1 .0))
+
+  pub store-door-more : (more : List Question) (r : ℕ) → r ≡ storeDoorNumber c n k → r ≡ 0 → asked (storeDoor ++ more) ≡ asked more
+  store-door-more more r e z = asked-yes storeDoor more (store-door-all r e z)

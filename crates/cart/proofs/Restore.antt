@@ -14,7 +14,7 @@ use Rattle.image.specs.Image.{imageLength}
 use Rattle.part.specs.Part.{partFits}
 use Rattle.cart.specs.ChipState.{chipBytes, chipOf, fieldQuestions, stateQuestions}
 use Rattle.cart.specs.Record.{State, Outcome, outcome, chipAllowed, recordAllowed}
-use Rattle.cart.specs.Calls.{chipState, stateWith, restoreQuestions, questions, accepted, step, restore}
+use Rattle.cart.specs.Calls.{chipState, chipWith, restoreQuestions, questions, accepted, step, restore}
 use Rattle.cart.specs.Claims.{StateBytes}
 use Rattle.cart.proofs.ChipState.{own-questions, chip-back, bytes-back}
 use Rattle.cart.proofs.Fields.{state-size, state-fields}
@@ -33,7 +33,7 @@ bytes-given s h = ap (λ (o : Outcome). o .given) (step-accepted chipState [] s 
 
 -- an accepted restore, and a refused one
 abbrev pub restoring : List ℕ → State → State
-restoring b s = stateWith s (s .cart .dirty) (chipOf b) (s .memory)
+restoring b s = chipWith s (s .cart .dirty) (chipOf b)
 
 pub restore-accepted : (b : List ℕ) (s : State) → asked (restoreQuestions b s) ≡ 0 → restore b s ≡ outcome [] (restoring b s) []
 unfolding restore
@@ -49,7 +49,7 @@ restores : (s : State) → recordAllowed (s .cart) ≡ true → s .cart .chip .e
 restores s h a =
     ap (λ (b : List ℕ). restore b s) (bytes-given s h)
     ∙ restore-accepted (chipBytes (s .cart .chip)) s (rw h (own-yes s h))
-    ∙ ap (λ c. outcome [] (stateWith s (s .cart .dirty) c (s .memory)) []) (chip-back (s .cart .chip) a)
+    ∙ ap (λ c. outcome [] (chipWith s (s .cart .dirty) c) []) (chip-back (s .cart .chip) a)
 
 numbers : (b : List ℕ) (s : State) → numbered (restoreQuestions b s) ≡ true
 unfolding fieldQuestions

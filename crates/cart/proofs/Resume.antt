@@ -19,7 +19,8 @@ use Rattle.memory.proofs.Memory.{filled-whole, filled-front}
 use Rattle.image.specs.Image.{imageLength}
 use Rattle.kind.specs.declared.SaveType.{SaveType}
 use Rattle.kind.specs.declared.SaveType.the-variants.{None, Sram, Flash64, Flash128, Eeprom512, Eeprom8k}
-use Rattle.kind.specs.Kind.{memorySize, usesEeprom, detectSaveType}
+use Rattle.counts.specs.Tallies.{talliesOf}
+use Rattle.kind.specs.Kind.{memorySize, tallyCount, usesEeprom, detectSaveType}
 use Rattle.part.specs.Part.{partOf, partFits}
 use Rattle.flash.specs.Flash.{stateAllowed}
 use Rattle.eeprom.specs.declared.EepromPhase.{EepromPhase}
@@ -37,6 +38,7 @@ use Rattle.cart.specs.Resume.{Open, withFlag, Resumes}
 use Rattle.cart.proofs.ChipState.{chip-allowed, own-questions, chip-back}
 use Rattle.cart.proofs.Fields.{chip-fields}
 use Rattle.cart.proofs.Sound.{Sound, record-allowed, memory-fits, step-accepted, sound-fresh, opened, eeprom-size}
+use Rattle.cart.proofs.Tallies.{Fit, tallies-fit, tallies-stay, right-memory, right-fresh, right-fit}
 use Rattle.cart.proofs.Restore.{restoring, restore-accepted}
 use Rattle.cart.proofs.Recoverable.{Recoverable, recoverable-step, recoverable-fresh}
 use Rattle.cart.proofs.Counts.{accepted-kept}
@@ -180,20 +182,20 @@ load-allowed f t a =
     (large-allowed c (usesEeprom (t .cart .kind) && ltb 512 (length f)) (and-right (l && p) (chipAllowed c) a))
 
 -- loading: some chip record that is allowed, and the memory that the file holds
-pub load-next : (f : List ℕ) (t : State) → recordAllowed (t .cart) ≡ true → eqb (length (t .memory)) (memorySize (t .cart .kind)) ≡ true → step (loadSave f) [] t .next ≡ load t f
+pub load-next : (f : List ℕ) (t : State) → recordAllowed (t .cart) ≡ true → eqb (length (t .memory)) (memorySize (t .cart .kind)) ≡ true → Fit t → step (loadSave f) [] t .next ≡ load t f
 unfolding questions accepted
-load-next f t a b = ap (λ (o : Outcome). o .next) (step-accepted (loadSave f) [] t (a, (b, tt)))
+load-next f t a b k = ap (λ (o : Outcome). o .next) (step-accepted (loadSave f) [] t (a, (b, (tallies-fit t k, tt))))
 
 record Loaded (t : State) (o : Option (List ℕ)) : Type 0 where
   chip : ChipRecord
   is : reloaded o t ≡ stateWith t (t .cart .dirty) chip (memoryFrom (t .memory) o)
   allowed : recordAllowed (reloaded o t .cart) ≡ true
 
-loaded : (o : Option (List ℕ)) (t : State) → recordAllowed (t .cart) ≡ true → eqb (length (t .memory)) (memorySize (t .cart .kind)) ≡ true → Loaded t o
+loaded : (o : Option (List ℕ)) (t : State) → recordAllowed (t .cart) ≡ true → eqb (length (t .memory)) (memorySize (t .cart .kind)) ≡ true → Fit t → Loaded t o
 unfolding load stored
-loaded none t a b = record { chip = t .cart .chip; is = refl; allowed = a }
-loaded (some f) t a b =
-    let n = load-next f t a b in
+loaded none t a b k = record { chip = t .cart .chip; is = sym (tallies-stay t (k .words)); allowed = a }
+loaded (some f) t a b k =
+    let n = load-next f t a b k in
     record { chip = load t f .cart .chip; is = n; allowed = ap (λ (z : State). recordAllowed (z .cart)) n ∙ load-allowed f t a }
 
 -- restoring
@@ -214,9 +216,13 @@ resumed-is image part s t r q =
     let b : List ℕ = chipBytes (s .cart .chip) in
     let kind : SaveType = detectSaveType image in
     let o : Option (List ℕ) = fileOf kind s in
-    let x = loaded o t (q .allowed) (eq-eqb _ _ (q .memoryOk)) in
+    let x = loaded o t (q .allowed) (eq-eqb _ _ (q .memoryOk)) (right-fit t (q .talliesOk)) in
     let c = chip-back (s .cart .chip) (acc-lt s k) in
     let m = memory-back image part s r (t .memory) kind (r .kindIs) (q .memoryOk ∙ ap memorySize (q .kindIs)) in
+    let ts =
+    right-memory t (t .cart .dirty) (x .chip) (memoryFrom (t .memory) o) (q .talliesOk)
+    ∙ ap₂ (λ (i : SaveType) (l : List ℕ). talliesOf (tallyCount i) l) (q .kindIs ∙ sym (r .kindIs)) m
+    in
     ap₂ (λ (l : List ℕ) (f : Option (List ℕ)). restore l (reloaded f t) .next) (bytes-left s a) (file-left s a (memory-fits s k) ∙ ap (λ (i : SaveType). fileOf i s) (r .kindIs))
     ∙ restore-next b (reloaded o t) (x .allowed) (own-questions (s .cart .chip) (chip-allowed (s .cart .chip) (k .flashOk) (k .eepromOk)))
     ∙ ap (restoring b) (x .is)
@@ -224,23 +230,24 @@ resumed-is image part s t r q =
     record {
       cart = record { len = (q .lenIs ∙ sym (r .lenIs)) i; kind = (q .kindIs ∙ sym (r .kindIs)) i; part = (q .partIs ∙ sym (r .partIs)) i; dirty = t .cart .dirty; chip = c i };
       memory = m i;
+      tallies = (ts ∙ sym (r .right)) i;
     })
 
 pub open-fresh : (image : List ℕ) (part : ℕ) → Sound (fresh image (partOf part)) → Open image part (fresh image (partOf part))
 unfolding fresh freshCart
 open-fresh image part k =
-    record { lenIs = refl; kindIs = refl; partIs = refl; allowed = unfold fresh freshCart in record-allowed (fresh image (partOf part)) k; memoryOk = k .memoryOk }
+    record { lenIs = refl; kindIs = refl; partIs = refl; allowed = unfold fresh freshCart in record-allowed (fresh image (partOf part)) k; memoryOk = k .memoryOk; talliesOk = right-fresh image (partOf part) }
 
 -- the state without its flag
 abbrev pub quiet : State → State
 quiet s = withFlag false s
 
 -- a cut loses the flag, and nothing else
-pub cut-quiet : (image : List ℕ) (part : ℕ) (memory : List ℕ) (s : State) → fromBytes image part memory .refusal ≡ 0 → Recoverable image part s → cut image part memory s ≡ quiet s
+pub cut-quiet : (image : List ℕ) (part : ℕ) (memory tallies : List ℕ) (s : State) → fromBytes image part memory tallies .refusal ≡ 0 → Recoverable image part s → cut image part memory tallies s ≡ quiet s
 unfolding cut fresh freshCart
-cut-quiet image part memory s h r =
-    ap (λ (o : Outcome). resumed s (o .next)) (opened image part memory h)
-    ∙ resumed-is image part s (fresh image (partOf part)) r (open-fresh image part (sound-fresh image part memory h))
+cut-quiet image part memory tallies s h r =
+    ap (λ (o : Outcome). resumed s (o .next)) (opened image part memory tallies h)
+    ∙ resumed-is image part s (fresh image (partOf part)) r (open-fresh image part (sound-fresh image part memory tallies h))
 
 -- after a list of calls
 recoverable-calls : (image : List ℕ) (part : ℕ) (list : List Call) (s : State)
@@ -253,10 +260,10 @@ recoverable-calls image part (c ∷ list) s n r =
     (recoverable-step image part c [] s (λ a v p. n a v (List·Memᴰ·head p)) r)
 
 pub resumes : Resumes
-resumes image part memory list t h n q =
-    let s0 : State = fromBytes image part memory .next in
+resumes image part memory tallies list t h n q =
+    let s0 : State = fromBytes image part memory tallies .next in
     let s : State = calls list s0 .last in
-    let r0 : Recoverable image part s0 = rw (opened image part memory h) (recoverable-fresh image part memory h) in
+    let r0 : Recoverable image part s0 = rw (opened image part memory tallies h) (recoverable-fresh image part memory tallies h) in
     let r : Recoverable image part s = recoverable-calls image part list s0 n r0 in
     let e = resumed-is image part s t r q in
-    (e, e ∙ ap (withFlag (t .cart .dirty)) (sym (cut-quiet image part memory s h r)))
+    (e, e ∙ ap (withFlag (t .cart .dirty)) (sym (cut-quiet image part memory tallies s h r)))

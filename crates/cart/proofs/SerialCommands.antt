@@ -15,7 +15,7 @@ use Rattle.memory.specs.Memory.{Held}
 use Rattle.memory.proofs.Memory.{length-word}
 use Rattle.kind.specs.Kind.{usesEeprom}
 use Rattle.eeprom.specs.declared.Eeprom.{Eeprom}
-use Rattle.eeprom.specs.declared.EepromPhase.the-variants.{Reading}
+use Rattle.eeprom.specs.declared.EepromPhase.the-variants.{Opcode, Reading}
 use Rattle.eeprom.specs.Eeprom.{told, tells6, tells14, beginDma, dmaQuestion, serial, bitIn, readBit, afterRead}
 use Rattle.eeprom.specs.Gbatek as eeprom
 use Rattle.eeprom.specs.Gbatek.{Width, Writing, Addressing, bits, bitsOfBytes, readOut, fed, drawn, drained, held, blockOf}
@@ -25,21 +25,24 @@ use Rattle.cart.specs.Record.{State, outcome, counted}
 use Rattle.cart.specs.Calls.{eepromBeginDma, eepromWrite, eepromRead, eepromOf, withEeprom, withChip, questions, accepted, step}
 use Rattle.cart.specs.Gbatek.{Ran, ran, calls, Usable, SerialBitsClaim, write, read, behind, SerialClaim}
 use Rattle.cart.proofs.Sound.{step-accepted, eeprom-size}
-use Rattle.cart.proofs.Usable.{memory-yes, usable-step}
+use Rattle.cart.proofs.Tallies.{tallies-stay, tallies-again}
+use Rattle.cart.proofs.Usable.{memory-yes, tallies-yes, usable-step}
 use Rattle.cart.proofs.Runs.{then, nothing, calls-then, usable-on}
 
 -- bits in and bits out are accepted one after the other
 bit-step : (s : State) (v : ℕ) → usesEeprom (s .cart .kind) ≡ true → Usable s → step (eepromWrite v) [] s ≡ counted s (outcome [] (withEeprom s (bitIn (eepromOf s) v)) [])
 unfolding questions accepted
-bit-step s v u k = step-accepted (eepromWrite v) [] s (k .valid, (memory-yes s k, (u, tt)))
+bit-step s v u k = step-accepted (eepromWrite v) [] s (k .valid, (memory-yes s k, (tallies-yes s k, (u, tt))))
 
 run-bits : (vs : List ℕ) (s : State) → usesEeprom (s .cart .kind) ≡ true → Usable s → calls (map eepromWrite vs) s ≡ ran [] (withEeprom s (fed vs (eepromOf s)))
 unfolding fed
-run-bits [] s u k = nothing s
+run-bits [] s u k = nothing s ∙ ap (ran []) (sym (tallies-stay s (k .words)))
 run-bits (v ∷ vs) s u k =
     let t : State = withEeprom s (bitIn (eepromOf s) v) in
     let b = bit-step s v u k in
-    then (eepromWrite v) (map eepromWrite vs) s b (run-bits vs t u (rw b at (usable-step (eepromWrite v) [] s k)))
+    then (eepromWrite v) (map eepromWrite vs) s b
+    (run-bits vs t u (rw b at (usable-step (eepromWrite v) [] s k))
+    ∙ ap (ran []) (tallies-again s (t .memory) (withEeprom s (fed vs (eepromOf t)))))
 
 out-step : (s : State) → usesEeprom (s .cart .kind) ≡ true → Usable s
     → step eepromRead [] s ≡ counted s (outcome (readBit true (s .cart .chip .eeprom) (s .memory) ∷ []) (withChip s (afterRead (s .cart .chip .eeprom))) [])
@@ -132,13 +135,16 @@ module _ (s : State) (i : Waits s) where
       let k : ℕ = block % 1024 in
       let c = serial-chip w (beginDma n e) x (told-idle n e (i .idle) .0) in
       let cs = eepromBeginDma n ∷ map eepromWrite vs in
+      let u = i .usable .words in
       let t : State = withChip s (serial (beginDma n e) Reading 0 k 0 0) in
       let a : calls cs s ≡ ran [] t =
       told-bits n vs
       ∙ ap (λ (z : Held Eeprom). ran [] (withEeprom s z)) (c .addresses block vs m (s .cart .dirty) (serial-chip w e x (i .idle) .announcesRead) h)
+      ∙ ap (ran []) (tallies-stay t u)
       in
       calls-then cs (replicate 68 eepromRead) s a (run-outs 68 t (i .kind) (usable-on cs s (i .usable) a))
       ∙ (λ j. ran (c .reads block m (room block) j) (withChip s (c .ends k j)))
+      ∙ ap (ran (readOut (blockOf m k))) (sym (tallies-stay (withChip s (serial (beginDma n e) Opcode 0 k 0 0)) u))
 
 -- a read gives what the last write stored, and other blocks are untouched
 after : (w : ℕ) → Width w → (s : State) → Waits s → (block word other : ℕ) (vs us : List ℕ) → Writing w block word vs → Addressing w other us

@@ -95,7 +95,8 @@ module _ {E : Eeprom → Type 0} where
 
   write-by : (kind : SaveType) (s : State) (a v : ℕ) → s .cart .kind ≡ kind → SoundBy E s → SoundBy E (writeSave kind s a v)
   unfolding writeSave writeStep writeByte stored
-  write-by None s a v e k = k
+  write-by None s a v e k =
+      record { lenOk = k .lenOk; partOk = k .partOk; memoryOk = k .memoryOk; flashOk = k .flashOk; eepromOk = k .eepromOk }
   write-by Sram s a v e k = byte-by s true (a % 32768) v k
   write-by Flash64 s a v e k = flash-by s a v 16 (ap memorySize e) (omega arith) (omega arith) k
   write-by Flash128 s a v e k = flash-by s a v 32 (ap memorySize e) (omega arith) (omega arith) k
@@ -131,7 +132,7 @@ module _ {E : Eeprom → Type 0} (keep : Keeps E) where
   accepted-by (saveRead a) d s y k = k
   accepted-by (saveWrite a v) d s y k = write-by (s .cart .kind) s a v refl k
   accepted-by (eepromBeginDma words) d s y k = chip-by s _ k (keep .dma words (s .cart .chip .eeprom) (k .eepromOk) (y .1 .0))
-  accepted-by (eepromWrite v) d s y k = bit-by s v (y .1 .1 .0) k
+  accepted-by (eepromWrite v) d s y k = bit-by s v (y .1 .1 .1 .0) k
   accepted-by eepromRead d s y k = chip-by s _ k (keep .out (s .cart .chip .eeprom) (k .eepromOk))
   accepted-by (loadSave f) d s y k =
       record {
@@ -189,20 +190,20 @@ pub sound-step : (c : Call) (d : List ℕ) (s : State) → Sound s → Sound (st
 sound-step c d s k = step-by sound-keeps c d s k
 
 -- an accepted opening
-opened-yes : (image : List ℕ) (part : ℕ) (memory : List ℕ) → fromBytes image part memory .refusal ≡ 0 → asked (openQuestions image part memory) ≡ 0
+opened-yes : (image : List ℕ) (part : ℕ) (memory tallies : List ℕ) → fromBytes image part memory tallies .refusal ≡ 0 → asked (openQuestions image part memory tallies) ≡ 0
 unfolding fromBytes
-opened-yes image part memory =
-    let n : ℕ = asked (openQuestions image part memory) in
+opened-yes image part memory tallies =
+    let n : ℕ = asked (openQuestions image part memory tallies) in
     split (λ (o : Outcome). o .refusal ≡ 0 → n ≡ 0) (eqb n 0) (λ e h. eqb-true n 0 e) (λ e h. h)
 
-pub opened : (image : List ℕ) (part : ℕ) (memory : List ℕ) → fromBytes image part memory .refusal ≡ 0 → fromBytes image part memory ≡ outcome [] (fresh image (partOf part)) []
+pub opened : (image : List ℕ) (part : ℕ) (memory tallies : List ℕ) → fromBytes image part memory tallies .refusal ≡ 0 → fromBytes image part memory tallies ≡ outcome [] (fresh image (partOf part)) []
 unfolding fromBytes
-opened image part memory h = rw (opened-yes image part memory h)
+opened image part memory tallies h = rw (opened-yes image part memory tallies h)
 
-pub sound-kind : (n : ℕ) (kind : SaveType) (part : Part) → imageLength n ≡ true → partFits part kind ≡ true
-    → Sound (record { cart = freshCart n kind part; memory = erased (memorySize kind) })
+pub sound-kind : (n : ℕ) (kind : SaveType) (part : Part) (tallies : List ℕ) → imageLength n ≡ true → partFits part kind ≡ true
+    → Sound (record { cart = freshCart n kind part; memory = erased (memorySize kind); tallies = tallies })
 unfolding freshCart stateAllowed
-sound-kind n kind part h p =
+sound-kind n kind part tallies h p =
     record {
       lenOk = h;
       partOk = p;
@@ -211,9 +212,9 @@ sound-kind n kind part h p =
       eepromOk = eeprom.sound-fresh _;
     }
 
-pub sound-fresh : (image : List ℕ) (part : ℕ) (memory : List ℕ) → fromBytes image part memory .refusal ≡ 0 → Sound (fresh image (partOf part))
+pub sound-fresh : (image : List ℕ) (part : ℕ) (memory tallies : List ℕ) → fromBytes image part memory tallies .refusal ≡ 0 → Sound (fresh image (partOf part))
 unfolding fresh
-sound-fresh image part memory h =
+sound-fresh image part memory tallies h =
     let kind : SaveType = detectSaveType image in
-    let y = yes-all (openQuestions image part memory) refl (opened-yes image part memory h) in
-    sound-kind (length image) kind (partOf part) (y .0) (and-right (leb part 5) (partFits (partOf part) kind) (y .1 .1 .0))
+    let y = yes-all (openQuestions image part memory tallies) refl (opened-yes image part memory tallies h) in
+    sound-kind (length image) kind (partOf part) _ (y .0) (and-right (leb part 5) (partFits (partOf part) kind) (y .1 .1 .1 .0))

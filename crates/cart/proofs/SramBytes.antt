@@ -14,13 +14,13 @@ use Rattle.cart.specs.Record.{State, outcome, counted}
 use Rattle.cart.specs.Calls.{saveRead, saveWrite, stateWith, readSave, writeSave, questions, accepted, step}
 use Rattle.cart.specs.Gbatek.{ran, Usable, sramPlace, SramClaim}
 use Rattle.cart.proofs.Sound.{step-accepted}
-use Rattle.cart.proofs.Usable.{memory-yes, usable-step}
+use Rattle.cart.proofs.Usable.{memory-yes, tallies-yes, usable-step}
 use Rattle.cart.proofs.Runs.{then, nothing}
 
 module _ (s : State) (u : Usable s) (e : s .cart .kind ≡ Sram) where
   write-byte : (a v : ℕ) → step (saveWrite a v) [] s ≡ counted s (outcome [] (stateWith s true (s .cart .chip) (set (s .memory) (sramPlace a) v)) [])
   unfolding questions accepted writeSave writeStep stored
-  write-byte a v = step-accepted (saveWrite a v) [] s (u .valid, (memory-yes s u, tt)) ∙ rw e
+  write-byte a v = step-accepted (saveWrite a v) [] s (u .valid, (memory-yes s u, (tallies-yes s u, tt))) ∙ rw e
 
   read-byte : (c : ℕ) → step (saveRead c) [] s ≡ counted s (outcome (getD (s .memory) (sramPlace c) 0 ∷ []) s [])
   unfolding questions accepted readSave readByte

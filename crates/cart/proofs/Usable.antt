@@ -9,7 +9,7 @@ use lib.ListN.{length}
 use borrow.Author.Tests.{le-leb, lt-ltb, eq-eqb}
 use Rattle.lists.proofs.Bools.{and-left, and-right}
 use Rattle.image.specs.Image.{imageLength}
-use Rattle.kind.specs.Kind.{memorySize}
+use Rattle.kind.specs.Kind.{memorySize, tallyCount}
 use Rattle.part.specs.Part.{partFits}
 use Rattle.eeprom.specs.Eeprom.{wOf, countLimit}
 use Rattle.eeprom.proofs.Allowed.{Allowed, allowed-bit, allowed-read, allowed-dma, allowed-load}
@@ -18,6 +18,8 @@ use Rattle.cart.specs.Calls.{Call, loadSave, load, questions, accepted, 
 use Rattle.cart.specs.Gbatek.{Usable}
 use Rattle.cart.proofs.Fields.{chip-fields, allowed-bounds}
 use Rattle.cart.proofs.Sound.{SoundBy, Keeps, accepted-by, step-by}
+use Rattle.cart.proofs.Changes.{load-keeps}
+use Rattle.cart.proofs.Tallies.{Fit, fit-chip, fit-memory, fit-step, tallies-fit}
 
 -- the same, field by field
 pub to-fields : (s : State) → Usable s → SoundBy Allowed s
@@ -35,9 +37,9 @@ to-fields s u =
       eepromOk = record { widthOk = b .widthOk; countOk = b .limitOk; blockOk = b .blockOk; placeOk = b .placeOk };
     }
 
-of-fields : (s : State) → SoundBy Allowed s → Usable s
+of-fields : (s : State) → SoundBy Allowed s → Fit s → Usable s
 unfolding recordAllowed
-of-fields s k =
+of-fields s k f =
     let c = s .cart .chip in
     let e = c .eeprom in
     let o = k .eepromOk in
@@ -56,11 +58,19 @@ of-fields s k =
             lt-ltb (e .count) (countLimit (e .phase) (wOf e)) (o .countOk),
           ));
       memoryOk = k .memoryOk;
+      talliesOk = f .count;
+      words = f .words;
     }
 
--- question 3 is answered yes
+pub fit : (s : State) → Usable s → Fit s
+fit s u = record { count = u .talliesOk; words = u .words }
+
+-- questions 3 and 16 are answered yes
 pub memory-yes : (s : State) → Usable s → eqb (length (s .memory)) (memorySize (s .cart .kind)) ≡ true
 memory-yes s u = eq-eqb (length (s .memory)) (memorySize (s .cart .kind)) (u .memoryOk)
+
+pub tallies-yes : (s : State) → Usable s → eqb (length (s .tallies)) (tallyCount (s .cart .kind)) ≡ true
+tallies-yes s u = tallies-fit s (fit s u)
 
 keeps : Keeps Allowed
 keeps =
@@ -73,8 +83,10 @@ keeps =
     }
 
 pub usable-step : (c : Call) (d : List ℕ) (s : State) → Usable s → Usable (step c d s .next)
-usable-step c d s u = of-fields (step c d s .next) (step-by keeps c d s (to-fields s u))
+usable-step c d s u = of-fields (step c d s .next) (step-by keeps c d s (to-fields s u)) (fit-step c d s (fit s u))
 
 pub usable-load : (f : List ℕ) (s : State) → Usable s → Usable (load s f)
 unfolding accepted questions
-usable-load f s u = of-fields (load s f) (accepted-by keeps (loadSave f) [] s (u .valid, (memory-yes s u, tt)) (to-fields s u))
+usable-load f s u =
+    of-fields (load s f) (accepted-by keeps (loadSave f) [] s (u .valid, (memory-yes s u, (tallies-yes s u, tt))) (to-fields s u))
+    (load-keeps Fit fit-chip fit-memory f s (fit s u))

@@ -7,6 +7,7 @@ use lib.Dec.{ltb, leb}
 use lib.ListN.{length, take}
 use Rattle.lists.specs.Lists.{into, bit}
 use Rattle.lists.specs.Questions.{Question, _else_}
+use Rattle.counts.specs.Tallies.{retallied, blank, firstInUse, inUseNumber}
 use Rattle.memory.specs.declared.Store.the-variants.{File}
 use Rattle.memory.specs.Memory.{Held, changed}
 use Rattle.image.specs.declared.Answer.{Answer}
@@ -23,7 +24,7 @@ use Rattle.cart.specs.declared.ChipRecord.{ChipRecord}
 use Rattle.cart.specs.declared.Cartridge.{Cartridge}
 use Rattle.cart.specs.ChipState.{chipBytes, chipOf, stateQuestions}
 use Rattle.cart.specs.Record.{State, Outcome, guarded, outcome, outcomeOf, counted}
-use Rattle.cart.specs.Record.{recordQuestion, memoryQuestion}
+use Rattle.cart.specs.Record.{recordQuestion, memoryQuestion, tallyQuestion}
 
 -- "nine calls: byte read, byte write, DMA, bit in, bit out, load, export, `chip_state`, `take_save_dirty`"
 pub data Call : Type 0 where
@@ -37,12 +38,22 @@ pub data Call : Type 0 where
   chipState : Call
   takeSaveDirty : Call
 
--- the state s with another flag, chip record and memory
+-- the state s with another flag and chip record
+abbrev pub chipWith : State → Bool → ChipRecord → State
+chipWith s dirty chip =
+    record {
+      cart = record { len = s .cart .len; kind = s .cart .kind; part = s .cart .part; dirty = dirty; chip = chip };
+      memory = s .memory;
+      tallies = s .tallies;
+    }
+
+-- and with another memory; 02, ticket 4: "a store adds its change" to the tallies
 abbrev pub stateWith : State → Bool → ChipRecord → List ℕ → State
 stateWith s dirty chip memory =
     record {
-      cart = record { len = s .cart .len; kind = s .cart .kind; part = s .cart .part; dirty = dirty; chip = chip };
+      cart = chipWith s dirty chip .cart;
       memory = memory;
+      tallies = retallied (s .memory) memory (s .tallies);
     }
 
 -- each chip with the memory and the flag, and the state after a step of it
@@ -59,7 +70,7 @@ abbrev pub withEeprom : State → Held Eeprom → State
 withEeprom s x = stateWith s (x .dirty) (record { flash = s .cart .chip .flash; eeprom = x .chip }) (x .memory)
 
 abbrev pub withChip : State → Eeprom → State
-withChip s e = withEeprom s (record { chip = e; memory = s .memory; dirty = s .cart .dirty })
+withChip s e = chipWith s (s .cart .dirty) (record { flash = s .cart .chip .flash; eeprom = e })
 
 -- Bytes (`save_read`, `save_write`), by the kind
 unfoldable pub readSave : SaveType → State → ℕ → ℕ
@@ -107,13 +118,16 @@ question2 s = recordQuestion (s .cart)
 abbrev pub question3 : State → Question
 question3 s = memoryQuestion (s .cart .kind) (s .memory)
 
+abbrev pub question16 : State → Question
+question16 s = tallyQuestion (s .cart .kind) (s .tallies)
+
 unfoldable pub questions : Call → List ℕ → State → List Question
 questions (saveRead a) d s = question2 s ∷ question3 s ∷ []
-questions (saveWrite a v) d s = question2 s ∷ question3 s ∷ []
+questions (saveWrite a v) d s = question2 s ∷ question3 s ∷ question16 s ∷ []
 questions (eepromBeginDma words) d s = question2 s ∷ dmaQuestion words (s .cart .chip .eeprom) ∷ []
-questions (eepromWrite v) d s = question2 s ∷ question3 s ∷ usesEeprom (s .cart .kind) else 4 ∷ []
+questions (eepromWrite v) d s = question2 s ∷ question3 s ∷ question16 s ∷ usesEeprom (s .cart .kind) else 4 ∷ []
 questions eepromRead d s = question2 s ∷ question3 s ∷ []
-questions (loadSave f) d s = question2 s ∷ question3 s ∷ []
+questions (loadSave f) d s = question2 s ∷ question3 s ∷ question16 s ∷ []
 questions saveData d s = question2 s ∷ question3 s ∷ holds (fileOf (s .cart .kind) s) d else 13 ∷ []
 questions chipState d s = question2 s ∷ []
 questions takeSaveDirty d s = question2 s ∷ []
@@ -132,7 +146,7 @@ accepted (loadSave f) d s = outcome [] (load s f) d
 accepted saveData d s = exported (fileOf (s .cart .kind) s) d s
 accepted chipState d s = outcome (chipBytes (s .cart .chip)) s d
 accepted takeSaveDirty d s =
-    outcomeOf 0 [] (s .cart .dirty) 0 (stateWith s false (s .cart .chip) (s .memory)) d
+    outcomeOf 0 [] (s .cart .dirty) 0 (chipWith s false (s .cart .chip)) d
 
 -- a call of the nine, with the number of places that it changed
 unfoldable pub step : Call → List ℕ → State → Outcome
@@ -143,12 +157,13 @@ abbrev pub restoreQuestions : List ℕ → State → List Question
 restoreQuestions b s = question2 s ∷ stateQuestions b
 
 unfoldable pub restore : List ℕ → State → Outcome
-restore b s = guarded (restoreQuestions b s) [] s (outcome [] (stateWith s (s .cart .dirty) (chipOf b) (s .memory)) [])
+restore b s = guarded (restoreQuestions b s) [] s (outcome [] (chipWith s (s .cart .dirty) (chipOf b)) [])
 
 -- 14: "is the file's length one that `save_fit` takes for the record's kind?"; "import itself loads that part and
 -- answers its length"
 abbrev pub importQuestions : List ℕ → State → List Question
-importQuestions f s = question2 s ∷ question3 s ∷ taken (saveFit (s .cart .kind) (length f)) else 14 ∷ []
+importQuestions f s =
+    question2 s ∷ question3 s ∷ question16 s ∷ taken (saveFit (s .cart .kind) (length f)) else 14 ∷ []
 
 unfoldable pub importSave : List ℕ → State → Outcome
 importSave f s =
@@ -161,3 +176,13 @@ usesEepromOf c = answered (recordQuestion c ∷ []) (bit (usesEeprom (c .kind)))
 
 unfoldable pub eepromWindowStart : Cartridge → Answer
 eepromWindowStart c = answered (recordQuestion c ∷ []) (windowStart (c .len))
+
+-- 02, ticket 4: "Is it blank" and "the first stretch in use", or that there is none, "come from tallies alone"
+abbrev pub tallyQuestions : Cartridge → List ℕ → List Question
+tallyQuestions c tallies = recordQuestion c ∷ tallyQuestion (c .kind) tallies ∷ []
+
+unfoldable pub isBlank : Cartridge → List ℕ → Answer
+isBlank c tallies = answered (tallyQuestions c tallies) (bit (blank tallies))
+
+unfoldable pub inUse : Cartridge → List ℕ → Answer
+inUse c tallies = answered (tallyQuestions c tallies) (inUseNumber (firstInUse tallies))

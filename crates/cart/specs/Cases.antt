@@ -16,10 +16,10 @@ use Rattle.cart.specs.Gbatek.{Usable, calls, FlashPart, writes}
 
 -- a fresh cartridge without and with an EEPROM
 abbrev pub plain : State
-plain = fromBytes (replicate 192 0) 0 [] .next
+plain = fromBytes (replicate 192 0) 0 [] [] .next
 
 abbrev pub eeprom : State
-eeprom = fromBytes (ascii "EEPROM_V" ++ replicate 184 0) 0 (replicate 8192 0) .next
+eeprom = fromBytes (ascii "EEPROM_V" ++ replicate 184 0) 0 (replicate 8192 0) (replicate 2 0) .next
 
 -- 18 bytes, of which flash state, large, phase, count and the block's high byte are given and the others are 0
 abbrev pub chip : ℕ → ℕ → ℕ → ℕ → ℕ → List ℕ
@@ -49,4 +49,4 @@ pub record Cases : Type 0 where
       → (t : At) (a : ℕ) → calls (writes (halfErase t a)) s .last .memory ≡ s .memory
   pub j : calls (eepromWrite 0 ∷ eepromWrite 1 ∷ []) eeprom .last ≡ eeprom
   pub k : (largeBehind 512 ≡ false) × (largeBehind 513 ≡ true)
-  pub l : fromBytes (replicate 191 0) 0 [] .refusal ≡ 1
+  pub l : fromBytes (replicate 191 0) 0 [] [] .refusal ≡ 1

@@ -38,6 +38,7 @@ withPart p s =
     record {
       cart = record { len = c .len; kind = c .kind; part = p; dirty = c .dirty; chip = c .chip };
       memory = s .memory;
+      tallies = s .tallies;
     }
 
 abbrev pub outcomeWith : Part → Outcome → Outcome
@@ -47,8 +48,8 @@ outcomeWith p o =
 -- the part is the one that opening was given: no call, restore or import touches it; and whichever part fits, each call
 -- but a byte read in ID mode answers and does the same
 pub record PartKept : Type 0 where
-  pub opened : (image : List ℕ) (part : ℕ) (memory : List ℕ) → fromBytes image part memory .refusal ≡ 0
-      → fromBytes image part memory .next .cart .part ≡ partOf part
+  pub opened : (image : List ℕ) (part : ℕ) (memory tallies : List ℕ) → fromBytes image part memory tallies .refusal ≡ 0
+      → fromBytes image part memory tallies .next .cart .part ≡ partOf part
   pub stays : (c : Call) (d : List ℕ) (s : State) → step c d s .next .cart .part ≡ s .cart .part
   pub restored : (b : List ℕ) (s : State) → restore b s .next .cart .part ≡ s .cart .part
   pub imported : (f : List ℕ) (s : State) → importSave f s .next .cart .part ≡ s .cart .part

@@ -3,9 +3,10 @@ use mathlib.Core.Path.{_≡_}
 use mathlib.Core.List.{List, []}
 use Prim.Native.Nat.{ℕ, _%_, _≤_}
 use lib.ListN.{length}
+use Rattle.counts.specs.Counts.{differing}
 use Rattle.memory.specs.declared.Store.{Store}
 use Rattle.memory.specs.declared.Store.the-variants.{Nothing, File}
-use Rattle.memory.specs.Memory.{stored, differing, most}
+use Rattle.memory.specs.Memory.{stored, most}
 use Rattle.byte_step.specs.ByteStep.{writeStep}
 use Rattle.eeprom.specs.Eeprom.{writeBit}
 use Rattle.cart.specs.Record.{State}

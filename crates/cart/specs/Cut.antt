@@ -31,12 +31,12 @@ reloaded (some f) s = step (loadSave f) [] s .next
 abbrev pub resumed : State → State → State
 resumed s t = restore (bytesLeft s) (reloaded (fileLeft s) t) .next
 
-unfoldable pub cut : List ℕ → ℕ → List ℕ → State → State
-cut image part memory s = resumed s (fromBytes image part memory .next)
+unfoldable pub cut : List ℕ → ℕ → List ℕ → List ℕ → State → State
+cut image part memory tallies s = resumed s (fromBytes image part memory tallies .next)
 
-unfoldable pub cuts : List ℕ → ℕ → List ℕ → ℕ → State → State
-cuts image part memory zero s = s
-cuts image part memory (suc n) s = cuts image part memory n (cut image part memory s)
+unfoldable pub cuts : List ℕ → ℕ → List ℕ → List ℕ → ℕ → State → State
+cuts image part memory tallies zero s = s
+cuts image part memory tallies (suc n) s = cuts image part memory tallies n (cut image part memory tallies s)
 
 -- "A cut falls behind a call": a call of the list, the destination that comes with it, and how many cuts fall behind it
 pub record Turn : Type 0 where
@@ -46,7 +46,8 @@ pub record Turn : Type 0 where
 
 -- "Compared are the answers of the list's own calls, with refusal numbers and the bytes of export destinations, and
 -- at the list's end the file, or that there is none, and the 18 bytes. Left out are the answer of `take_save_dirty`
--- and the flag in the records." The number of places changed is such an answer.
+-- and the flag in the records." The number of places changed is such an answer; at the list's end the tallies are
+-- compared too.
 pub record Shown : Type 0 where
   pub refusal : ℕ
   pub given : List ℕ
@@ -61,15 +62,17 @@ pub record Compared : Type 0 where
   pub calls : List Shown
   pub file : Option (List ℕ)
   pub bytes : List ℕ
+  pub tallies : List ℕ
 
 abbrev pub before : Outcome → Compared → Compared
-before o r = record { calls = shown o ∷ r .calls; file = r .file; bytes = r .bytes }
+before o r = record { calls = shown o ∷ r .calls; file = r .file; bytes = r .bytes; tallies = r .tallies }
 
-unfoldable pub run : List ℕ → ℕ → List ℕ → List Turn → State → Compared
-run image part memory [] s = record { calls = []; file = fileLeft s; bytes = bytesLeft s }
-run image part memory (t ∷ list) s =
+unfoldable pub run : List ℕ → ℕ → List ℕ → List ℕ → List Turn → State → Compared
+run image part memory tallies [] s =
+    record { calls = []; file = fileLeft s; bytes = bytesLeft s; tallies = s .tallies }
+run image part memory tallies (t ∷ list) s =
     let o = step (t .call) (t .destination) s in
-    before o (run image part memory list (cuts image part memory (t .cutsBehind) (o .next)))
+    before o (run image part memory tallies list (cuts image part memory tallies (t .cutsBehind) (o .next)))
 
 -- the list without its cuts
 abbrev pub uncut : List Turn → List Turn
@@ -79,8 +82,8 @@ uncut = map (λ t. record { call = t .call; destination = t .destination; cutsBe
 -- the whole list with all its cuts."
 abbrev pub CutRuns : Type 0
 CutRuns =
-    (image : List ℕ) (part : ℕ) (memory : List ℕ) (list : List Turn)
-    → fromBytes image part memory .refusal ≡ 0
+    (image : List ℕ) (part : ℕ) (memory tallies : List ℕ) (list : List Turn)
+    → fromBytes image part memory tallies .refusal ≡ 0
     → ((a v : ℕ) → List·Memᴰ (saveWrite a v) (map (λ t. t .call) list) → usesEeprom (detectSaveType image) ≡ false)
-    → run image part memory list (fromBytes image part memory .next)
-    ≡ run image part memory (uncut list) (fromBytes image part memory .next)
+    → let s = fromBytes image part memory tallies .next in
+    run image part memory tallies list s ≡ run image part memory tallies (uncut list) s

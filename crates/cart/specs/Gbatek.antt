@@ -1,4 +1,4 @@
--- What the machine makes of GBATEK's commands, from every valid record with a memory of its kind's length.
+-- What the machine makes of GBATEK's commands, from every valid record with memory and tallies of its kind's lengths.
 use mathlib.Core.Path.{_≡_}
 use mathlib.Core.Bool.{Bool, true, false, cond}
 use mathlib.Core.List.{List, [], _∷_, _++_, map}
@@ -9,7 +9,8 @@ use lib.Pow.{areBytes}
 use Rattle.lists.specs.Lists.{digits, withPart}
 use Rattle.kind.specs.declared.SaveType.{SaveType}
 use Rattle.kind.specs.declared.SaveType.the-variants.{Sram, Flash64, Flash128}
-use Rattle.kind.specs.Kind.{memorySize, usesEeprom}
+use Rattle.counts.specs.Tallies.{Words}
+use Rattle.kind.specs.Kind.{memorySize, tallyCount, usesEeprom}
 use Rattle.part.specs.declared.Part.{Part}
 use Rattle.part.specs.declared.Part.the-variants.{Usual, Sst64, Macronix64, Panasonic64, Sanyo128, Macronix128}
 use Rattle.flash.specs.Gbatek as flash
@@ -40,10 +41,13 @@ calls (c ∷ cs) s = let o = step c [] s in andThen (o .refusal) (o .given) (cal
 abbrev pub ran : List ℕ → State → Ran
 ran given s = record { refusal = 0; given = given; last = s }
 
--- questions 2 and 3 are answered yes: a valid record, and a memory of its kind's length
+-- questions 2, 3 and 16 are answered yes: a valid record, a memory of its kind's length, and as many tallies as the
+-- kind has
 pub record Usable (s : State) : Type 0 where
   pub valid : recordAllowed (s .cart) ≡ true
   pub memoryOk : length (s .memory) ≡ memorySize (s .cart .kind)
+  pub talliesOk : length (s .tallies) ≡ tallyCount (s .cart .kind)
+  pub words : Words (s .tallies)
 
 -- SRAM: "32 KiB at 0E000000h..0E007FFFh, 8-bit bus, plain byte reads and writes"; document 01: "address mod 32,768"
 abbrev pub sramPlace : ℕ → ℕ
@@ -153,9 +157,10 @@ pub record Reached (s : State) : Type 0 where
   pub image : List ℕ
   pub part : ℕ
   pub memory : List ℕ
+  pub tallies : List ℕ
   pub list : List Call
-  pub opens : fromBytes image part memory .refusal ≡ 0
-  pub leads : calls list (fromBytes image part memory .next) .last ≡ s
+  pub opens : fromBytes image part memory tallies .refusal ≡ 0
+  pub leads : calls list (fromBytes image part memory tallies .next) .last ≡ s
 
 -- its part is in GBATEK's list, or is the usual one
 pub record Listed (s : State) : Type 0 where

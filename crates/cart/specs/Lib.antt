@@ -7,4 +7,5 @@ pub mod Claims
 pub mod Counts
 pub mod Gbatek
 pub mod Cases
+pub mod Stretches
 pub mod Resume

@@ -3,13 +3,14 @@ use mathlib.Core.Bool.{Bool, false, true, cond, _&&_}
 use mathlib.Core.List.{List, [], _∷_}
 use Prim.Native.Nat.{ℕ}
 use lib.Dec.{eqb}
-use lib.ListN.{length}
+use lib.ListN.{length, replicate}
 use Rattle.lists.specs.Questions.{Question, _else_, asked}
-use Rattle.memory.specs.Memory.{erased, differing}
+use Rattle.counts.specs.Counts.{differing}
+use Rattle.memory.specs.Memory.{erased}
 use Rattle.image.specs.Image.{imageLength, imageQuestion}
 use Rattle.kind.specs.declared.SaveType.{SaveType}
 use Rattle.kind.specs.declared.SaveType.the-variants.{None}
-use Rattle.kind.specs.Kind.{byKind, memorySize, detectSaveType}
+use Rattle.kind.specs.Kind.{byKind, memorySize, tallyCount, detectSaveType}
 use Rattle.part.specs.declared.Part.{Part}
 use Rattle.part.specs.declared.Part.the-variants.{Usual}
 use Rattle.part.specs.Part.{partOf, partFits, numberFits}
@@ -18,14 +19,15 @@ use Rattle.cart.specs.declared.ChipRecord.{ChipRecord}
 use Rattle.cart.specs.declared.Cartridge.{Cartridge}
 use Rattle.cart.specs.ChipState.{chipBytes, fieldQuestions}
 
--- a cartridge record with the memory that is passed with it
+-- a cartridge record with the memory and the tallies that are passed with it
 pub record State : Type 0 where
   pub cart : Cartridge
   pub memory : List ℕ
+  pub tallies : List ℕ
 
 -- what a call returns and leaves: the number of a refusal or 0, the numbers that it answers, the answer of
--- `take_save_dirty`, how many places of the memory it changed, record and memory, and the destination that it was
--- passed
+-- `take_save_dirty`, how many places of the memory it changed, record, memory and tallies, and the destination that it
+-- was passed
 pub record Outcome : Type 0 where
   pub refusal : ℕ
   pub given : List ℕ
@@ -69,9 +71,17 @@ recordQuestion c = recordAllowed c else 2
 abbrev pub memoryQuestion : SaveType → List ℕ → Question
 memoryQuestion kind memory = eqb (length memory) (memorySize kind) else 3
 
--- what 2 and 3 answer for a memory of n bytes
+-- 02, ticket 4: "16 when the lent tallies are not as many as the kind has, asked after 3"
+abbrev pub tallyQuestion : SaveType → List ℕ → Question
+tallyQuestion kind tallies = eqb (length tallies) (tallyCount kind) else 16
+
+-- what 2 and 3 answer for a memory of n bytes, and what 2, 3 and 16 answer for k tallies besides
 abbrev pub doorNumber : Cartridge → ℕ → ℕ
 doorNumber c n = asked (recordQuestion c ∷ eqb n (memorySize (c .kind)) else 3 ∷ [])
+
+abbrev pub storeDoorNumber : Cartridge → ℕ → ℕ → ℕ
+storeDoorNumber c n k =
+    asked (recordQuestion c ∷ eqb n (memorySize (c .kind)) else 3 ∷ eqb k (tallyCount (c .kind)) else 16 ∷ [])
 
 -- "flag and chip record 0, large 1 for Eeprom8k only"
 abbrev pub freshChip : Bool → ChipRecord
@@ -87,20 +97,25 @@ isLarge kind = byKind kind false false false false false true
 unfoldable pub freshCart : ℕ → SaveType → Part → Cartridge
 freshCart n kind part = record { len = n; kind = kind; part = part; dirty = false; chip = freshChip (isLarge kind) }
 
--- Open (`from_bytes`), with a part: "Memory all FFh"; "A fresh cartridge is what an accepted opening gives."
+-- Open (`from_bytes`), with a part: "Memory all FFh"; 02, ticket 4: "opening sets 0"; "A fresh cartridge is what an
+-- accepted opening gives."
 unfoldable pub fresh : List ℕ → Part → State
 fresh image part =
     let kind = detectSaveType image in
-    record { cart = freshCart (length image) kind part; memory = erased (memorySize kind) }
+    record {
+      cart = freshCart (length image) kind part;
+      memory = erased (memorySize kind);
+      tallies = replicate (tallyCount kind) 0;
+    }
 
 -- opening is given the part's number; "15 when a named part's size is not the kind's, asked last at opening"
-abbrev pub openQuestions : List ℕ → ℕ → List ℕ → List Question
-openQuestions image part memory =
+abbrev pub openQuestions : List ℕ → ℕ → List ℕ → List ℕ → List Question
+openQuestions image part memory tallies =
     let kind = detectSaveType image in
-    imageQuestion image ∷ memoryQuestion kind memory ∷ numberFits part kind else 15 ∷ []
+    imageQuestion image ∷ memoryQuestion kind memory ∷ tallyQuestion kind tallies ∷ numberFits part kind else 15 ∷ []
 
 -- "opening, given none, returns one of kind None with all else 0": the usual part
-unfoldable pub fromBytes : List ℕ → ℕ → List ℕ → Outcome
-fromBytes image part memory =
-    let none : State = record { cart = freshCart 0 None Usual; memory = memory } in
-    guarded (openQuestions image part memory) [] none (outcome [] (fresh image (partOf part)) [])
+unfoldable pub fromBytes : List ℕ → ℕ → List ℕ → List ℕ → Outcome
+fromBytes image part memory tallies =
+    let none : State = record { cart = freshCart 0 None Usual; memory = memory; tallies = tallies } in
+    guarded (openQuestions image part memory tallies) [] none (outcome [] (fresh image (partOf part)) [])

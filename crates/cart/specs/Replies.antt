@@ -11,8 +11,12 @@ use Rattle.cart.specs.declared.Reply.{Reply}
 use Rattle.lists.specs.Lists.{bit}
 use Rattle.cart.specs.Record.{State, Outcome}
 
+-- a record with its memory and tallies; a call that is passed no tallies is passed none
+abbrev pub tallied : Cartridge → List ℕ → List ℕ → State
+tallied cart memory tallies = record { cart = cart; memory = memory; tallies = tallies }
+
 abbrev pub state : Cartridge → List ℕ → State
-state cart memory = record { cart = cart; memory = memory }
+state cart memory = tallied cart memory []
 
 abbrev pub chipRecord : Flash → Eeprom → ChipRecord
 chipRecord flash eeprom = record { flash = flash; eeprom = eeprom }
@@ -42,9 +46,12 @@ first (n ∷ l) = n
 abbrev pub replyOf : Outcome → Reply
 replyOf o = reply (o .refusal) (first (o .given)) (o .changed) (o .next .cart)
 
--- with the memory, and with the destination that the call was passed
+-- with the memory, with memory and tallies, and with the destination that the call was passed
 abbrev pub replied : Outcome → Reply × List ℕ
 replied o = (replyOf o, o .next .memory)
+
+abbrev pub storeReplied : Outcome → Reply × List ℕ × List ℕ
+storeReplied o = (replyOf o, o .next .memory, o .next .tallies)
 
 abbrev pub exportReplied : Outcome → Reply × List ℕ
 exportReplied o = (replyOf o, o .destination)

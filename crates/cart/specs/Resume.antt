@@ -7,29 +7,31 @@ use lib.ListN.{length}
 use Rattle.kind.specs.Kind.{memorySize, usesEeprom, detectSaveType}
 use Rattle.part.specs.Part.{partOf}
 use Rattle.cart.specs.Record.{State, recordAllowed, fromBytes}
-use Rattle.cart.specs.Calls.{Call, saveWrite, stateWith}
+use Rattle.cart.specs.Calls.{Call, saveWrite, chipWith}
+use Rattle.cart.specs.Stretches.{TalliesRight}
 use Rattle.cart.specs.Cut.{resumed, cut}
 use Rattle.cart.specs.Gbatek.{calls}
 
--- a cartridge of the image with the part, whatever its chip, its memory and its flag hold
+-- a cartridge of the image with the part, whatever its chip, its memory and its flag hold; its tallies are the memory's
 pub record Open (image : List ℕ) (part : ℕ) (t : State) : Type 0 where
   pub lenIs : t .cart .len ≡ length image
   pub kindIs : t .cart .kind ≡ detectSaveType image
   pub partIs : t .cart .part ≡ partOf part
   pub allowed : recordAllowed (t .cart) ≡ true
   pub memoryOk : length (t .memory) ≡ memorySize (t .cart .kind)
+  pub talliesOk : TalliesRight t
 
 abbrev pub withFlag : Bool → State → State
-withFlag dirty s = stateWith s dirty (s .cart .chip) (s .memory)
+withFlag dirty s = chipWith s dirty (s .cart .chip)
 
 -- after a list as in demand 3, t becomes the state s at which the cut was made, which is what the cut with its opening
 -- gives; the flag alone stays t's
 abbrev pub Resumes : Type 0
 Resumes =
-    (image : List ℕ) (part : ℕ) (memory : List ℕ) (list : List Call) (t : State)
-    → fromBytes image part memory .refusal ≡ 0
+    (image : List ℕ) (part : ℕ) (memory tallies : List ℕ) (list : List Call) (t : State)
+    → fromBytes image part memory tallies .refusal ≡ 0
     → ((a v : ℕ) → List·Memᴰ (saveWrite a v) list → usesEeprom (detectSaveType image) ≡ false)
     → Open image part t
-    → let s = calls list (fromBytes image part memory .next) .last in
+    → let s = calls list (fromBytes image part memory tallies .next) .last in
     (resumed s t ≡ withFlag (t .cart .dirty) s)
-    × (resumed s t ≡ withFlag (t .cart .dirty) (cut image part memory s))
+    × (resumed s t ≡ withFlag (t .cart .dirty) (cut image part memory tallies s))

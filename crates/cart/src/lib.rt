@@ -13,6 +13,7 @@ pub use layout::StateBytes;
 use part::Part;
 pub use questions::door;
 pub use questions::record_allowed;
+pub use questions::store_door;
 pub use state_bytes::chip_bytes;
 pub use state_bytes::chip_of;
 pub use state_bytes::field_questions;

@@ -1,8 +1,8 @@
-// Questions 2 and 3.
+// Questions 2, 3 and 16.
 use crate::Cartridge;
 use crate::ChipRecord;
 ghost use mathlib.Core.Path.{_≡_};
-ghost use Rattle.cart.specs.Record.{chipAllowed, recordAllowed, doorNumber};
+ghost use Rattle.cart.specs.Record.{chipAllowed, recordAllowed, doorNumber, storeDoorNumber};
 
 fn chip_allowed(chip: ChipRecord) -> bool
     ensures { λ r. ⌜ r ≡ chipAllowed chip ⌝ }
@@ -53,6 +53,21 @@ pub fn door(cart: Cartridge, n: usize) -> u8
     let kind = cart.kind;
     if n != kind::memory_size(kind) {
         return 3;
+    }
+    0
+}
+
+// Questions 2, 3 and 16 of a record with a memory of n bytes and k tallies.
+pub fn store_door(cart: Cartridge, n: usize, k: usize) -> u8
+    ensures { λ r. ⌜ r ≡ storeDoorNumber cart n k ⌝ }
+{
+    let refusal = door(cart, n);
+    if refusal != 0 {
+        return refusal;
+    }
+    let kind = cart.kind;
+    if k != kind::tally_count(kind) {
+        return 16;
     }
     0
 }

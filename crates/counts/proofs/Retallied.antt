@@ -11,12 +11,8 @@ use Rattle.lists.specs.Lists.{withPart}
 use Rattle.lists.proofs.Bools.{cases}
 use Rattle.lists.proofs.Parts.{drop-part, part-before, slice-part, drop-replicate}
 use Rattle.counts.specs.Counts.{differs, used}
-use Rattle.counts.specs.Tallies.{retally, retallied, talliesOf}
+use Rattle.counts.specs.Tallies.{Words, retally, retallied, talliesOf}
 use Rattle.counts.proofs.Counts.{parts, set-part, byte-of, used-le, used-append}
-
--- tallies are numbers of 16 bits
-abbrev pub Words : List ℕ → Type 0
-Words ts = (i : ℕ) → getD ts i 0 < 65536
 
 used-take-le : (n : ℕ) (m : List ℕ) → used (take n m) ≤ n
 used-take-le n m = omega (arith, used-le (take n m), length-take n m)
@@ -78,6 +74,12 @@ pub length-tallies : (n : ℕ) (m : List ℕ) → length (talliesOf n m) ≡ n
 unfolding talliesOf
 length-tallies zero m = refl
 length-tallies (suc n) m = ap suc (length-tallies n (drop 4096 m))
+
+pub words-tallies : (n : ℕ) (m : List ℕ) → Words (talliesOf n m)
+unfolding talliesOf
+words-tallies zero m i = omega arith
+words-tallies (suc n) m zero = omega (arith, used-take-le 4096 m)
+words-tallies (suc n) m (suc i) = words-tallies n (drop 4096 m) i
 
 -- "opening sets 0"
 used-front-blank : (k n : ℕ) → used (take k (replicate n 255)) ≡ 0

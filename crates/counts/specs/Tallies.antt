@@ -2,10 +2,14 @@
 use mathlib.Core.Bool.{Bool, true, cond, _&&_}
 use mathlib.Core.List.{List, [], _∷_}
 use mathlib.Core.Option.{Option, none, some}
-use Prim.Native.Nat.{ℕ, zero, suc, _+_, _-_, _/_, _%_}
+use Prim.Native.Nat.{ℕ, zero, suc, _+_, _-_, _/_, _%_, _<_}
 use lib.Dec.{eqb}
-use lib.ListN.{take, drop}
+use lib.ListN.{getD, take, drop}
 use Rattle.counts.specs.Counts.{used}
+
+-- tallies are numbers of 16 bits
+abbrev pub Words : List ℕ → Type 0
+Words ts = (i : ℕ) → getD ts i 0 < 65536
 
 -- "a store adds its change, modulo 65,536": the bytes of its stretch that are in use before it, and after it
 unfoldable pub retally : ℕ → ℕ → ℕ → ℕ

@@ -33,6 +33,10 @@ kindOf n =
 abbrev pub memorySize : SaveType → ℕ
 memorySize kind = byKind kind 0 32768 65536 131072 8192 8192
 
+-- 02, ticket 4: "8, 16, 32 or 2 tallies by kind, none for None"
+abbrev pub tallyCount : SaveType → ℕ
+tallyCount kind = byKind kind 0 8 16 32 2 2
+
 -- `uses_eeprom`
 abbrev pub usesEeprom : SaveType → Bool
 usesEeprom kind = byKind kind false false false false true true

@@ -9,7 +9,7 @@ pub use header::sram_code;
 pub use markers::detect_save_type;
 pub use markers::eeprom_kind;
 ghost use mathlib.Core.Path.{_≡_};
-ghost use Rattle.kind.specs.Kind.{kindNumber, kindOf, memorySize, usesEeprom, windowStart};
+ghost use Rattle.kind.specs.Kind.{kindNumber, kindOf, memorySize, tallyCount, usesEeprom, windowStart};
 
 pub enum SaveType {
     None,
@@ -58,6 +58,13 @@ pub fn memory_size(kind: SaveType) -> usize
         SaveType::Eeprom512 => 8192,
         SaveType::Eeprom8k => 8192,
     }
+}
+
+// A tally for each 4,096 bytes of memory.
+pub fn tally_count(kind: SaveType) -> usize
+    ensures { λ r. ⌜ r ≡ tallyCount kind ⌝ }
+{
+    memory_size(kind) / 4096
 }
 
 pub fn uses_eeprom(kind: SaveType) -> bool

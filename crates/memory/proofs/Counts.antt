@@ -13,7 +13,8 @@ use Rattle.lists.proofs.Bools.{either, cases}
 use Rattle.lists.proofs.Parts.{mid-part}
 use Rattle.memory.specs.declared.Store.{Store}
 use Rattle.memory.specs.declared.Store.the-variants.{Nothing, Byte, Block, Sector, Chip, File}
-use Rattle.memory.specs.Memory.{erased, stored, differs, differing, withCount, Fits, most}
+use Rattle.counts.specs.Counts.{differs, differing}
+use Rattle.memory.specs.Memory.{erased, stored, withCount, Fits, most}
 use Rattle.memory.proofs.Memory.{length-erased, length-word, length-block, length-sector, length-filled}
 
 differs-same : (x : ℕ) → differs x x ≡ 0

@@ -7,7 +7,8 @@ use lib.ListN.{length, take, drop, length-append, length-drop, take-append-drop,
 use lib.Seq.{take-all, take-append-seam, drop-append-seam, length-take-le}
 use Rattle.lists.specs.Lists.{into}
 use Rattle.lists.proofs.Parts.{length-rest}
-use Rattle.memory.specs.Memory.{erased, filled, differing, withCount}
+use Rattle.counts.specs.Counts.{differing}
+use Rattle.memory.specs.Memory.{erased, filled, withCount}
 use Rattle.memory.proofs.Memory.{erased-0}
 use Rattle.memory.proofs.Counts.{differing-append, count-is, memory-is}
 

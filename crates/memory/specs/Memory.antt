@@ -5,6 +5,7 @@ use Prim.Native.Nat.{ℕ, _+_, _*_, _-_, _/_, _≤_, _<_}
 use lib.Dec.{eqb}
 use lib.ListN.{length, take, set, replicate}
 use Rattle.lists.specs.Lists.{digits, withPart}
+use Rattle.counts.specs.Counts.{differing}
 use Rattle.memory.specs.declared.Store.{Store}
 use Rattle.memory.specs.declared.Store.the-variants.{Nothing, Byte, Block, Sector, Chip, File}
 
@@ -25,15 +26,6 @@ stored (Block k d) file m = withPart m (8 * k) (digits 256 8 d)
 stored (Sector a) file m = withPart m (a / 4096 * 4096) (erased 4096)
 stored Chip file m = erased (length m)
 stored File file m = filled (length m) file
-
--- 02, ticket 2: "the number of memory places whose value differs from before"
-abbrev pub differs : ℕ → ℕ → ℕ
-differs x y = cond (eqb x y) 0 1
-
-unfoldable pub differing : List ℕ → List ℕ → ℕ
-differing [] after = 0
-differing (x ∷ before) [] = 0
-differing (x ∷ before) (y ∷ after) = differs x y + differing before after
 
 -- a store's answer, and what it leaves
 abbrev pub withCount : List ℕ → List ℕ → ℕ × List ℕ

@@ -3,7 +3,8 @@
 ghost use mathlib.Core.Path.{_≡_};
 ghost use Prim.Native.Nat.{_≤_};
 ghost use lib.ListN.{length};
-ghost use Rattle.memory.specs.Memory.{erased, differs as differs·spec, differing as differing·spec};
+ghost use Rattle.memory.specs.Memory.{erased};
+ghost use Rattle.counts.specs.Counts.{differs as differs·spec, differing as differing·spec};
 
 // 1 where two bytes differ.
 fn differs(a: u8, b: u8) -> u8

@@ -4,7 +4,7 @@ use mathlib.Core.Path.{_≡_, ap}
 use Prim.Native.Nat.{ℕ, _+_, _-_, _≤_}
 use native.Mathlib.Omega.{arith}
 use lib.ListN.{length, take, drop, length-take, length-drop}
-use Rattle.memory.specs.Memory.{differing}
+use Rattle.counts.specs.Counts.{differing}
 use Rattle.memory.proofs.Counts.{differing-le, differing-on, differing-end}
 use borrow.Author.Needs.{needs}
 use Rattle.memory.proofs.count.differing.Statement.{statement}

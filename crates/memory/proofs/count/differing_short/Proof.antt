@@ -3,7 +3,7 @@ use mathlib.Core.Path.{_≡_}
 use Prim.Native.Nat.{_+_, _-_, _≤_}
 use native.Mathlib.Omega.{arith}
 use lib.ListN.{length, drop}
-use Rattle.memory.specs.Memory.{differing}
+use Rattle.counts.specs.Counts.{differing}
 use Rattle.memory.proofs.Counts.{differing-le, differing-next, differing-end}
 use borrow.Author.Needs.{needs}
 use Rattle.memory.proofs.count.differing_short.Statement.{statement}
