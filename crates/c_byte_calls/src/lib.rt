@@ -78,24 +78,29 @@ pub fn save_read(cart: &RecordBytes, memory: &[u8], address: u32, value: &mut u3
 fn write_valid(
     cart: &mut RecordBytes,
     memory: &mut [u8],
+    tallies: &mut [u16],
     address: u32,
     value: u8,
     changed: &mut u32,
 ) -> u32
     requires { ⌜ Valid (now cart) ⌝ }
-    ensures { λ x. ⌜ (x, now (cart .exit), now (memory .exit), now (changed .exit))
-        ≡ writes address value (now (cart .entry)) (now (memory .entry)) (now (changed .entry)) ⌝ }
+    ensures { λ x. ⌜ (x, now (cart .exit), now (memory .exit), now (tallies .exit), now (changed .exit))
+        ≡ writes address value (now (cart .entry)) (now (memory .entry))
+        (now (tallies .entry)) (now (changed .entry)) ⌝ }
 {
     let kind = c_record::kind_in(cart);
     if memory.len() != kind::memory_size(kind) {
         return 3;
+    }
+    if tallies.len() != kind::tally_count(kind) {
+        return 16;
     }
     let flash = c_record::flash_in(cart);
     let t = byte_step::write_byte(kind, flash, memory.len(), address, value);
     let store = t.store;
     let next = t.flash;
     c_record::put_flash(cart, t.sets, next);
-    *changed = memory::apply(store, &NO_FILE, memory);
+    *changed = memory::apply(store, &NO_FILE, memory, tallies);
     // a step that stores does not change ID mode
     if memory::stores(store) {
         return 0;
@@ -107,34 +112,45 @@ fn write_valid(
 fn write_any(
     cart: &mut RecordBytes,
     memory: &mut [u8],
+    tallies: &mut [u16],
     address: u32,
     value: u8,
     changed: &mut u32,
 ) -> u32
-    ensures { λ x. ⌜ (x, now (cart .exit), now (memory .exit), now (changed .exit))
-        ≡ writes address value (now (cart .entry)) (now (memory .entry)) (now (changed .entry)) ⌝ }
+    ensures { λ x. ⌜ (x, now (cart .exit), now (memory .exit), now (tallies .exit), now (changed .exit))
+        ≡ writes address value (now (cart .entry)) (now (memory .entry))
+        (now (tallies .entry)) (now (changed .entry)) ⌝ }
 {
     if !c_record::is_record(cart) {
         return 2;
     }
-    write_valid(cart, &mut memory[..], address, value, changed)
+    write_valid(
+        cart,
+        &mut memory[..],
+        &mut tallies[..],
+        address,
+        value,
+        changed,
+    )
 }
 
 pub fn save_write(
     cart: &mut RecordBytes,
     memory: &mut [u8],
+    tallies: &mut [u16],
     address: u32,
     value: u8,
     changed: &mut u32,
 ) -> u32
-    ensures { λ x. ⌜ (x, now (cart .exit), now (memory .exit), now (changed .exit))
-        ≡ writes address value (now (cart .entry)) (now (memory .entry)) (now (changed .entry)) ⌝ }
+    ensures { λ x. ⌜ (x, now (cart .exit), now (memory .exit), now (tallies .exit), now (changed .exit))
+        ≡ writes address value (now (cart .entry)) (now (memory .entry))
+        (now (tallies .entry)) (now (changed .entry)) ⌝ }
 {
     if !quick_tests::known(cart) {
-        return write_any(cart, memory, address, value, changed);
+        return write_any(cart, memory, tallies, address, value, changed);
     }
     if !quick_tests::bytes_usual(cart) {
-        return write_any(cart, memory, address, value, changed);
+        return write_any(cart, memory, tallies, address, value, changed);
     }
-    write_valid(cart, memory, address, value, changed)
+    write_valid(cart, memory, tallies, address, value, changed)
 }

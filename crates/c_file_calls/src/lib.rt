@@ -6,7 +6,7 @@ use memory::Store;
 ghost use mathlib.Core.Path.{_≡_};
 ghost use mathlib.Core.List.{[]};
 ghost use lib.ListN.{length};
-ghost use Rattle.kind.specs.Kind.{memorySize};
+ghost use Rattle.kind.specs.Kind.{memorySize, tallyCount};
 ghost use Rattle.cart.specs.Record.{counted};
 ghost use Rattle.cart.specs.Calls.{loadSave, accepted};
 ghost use Rattle.c_record.specs.RecordBytes.{cartOf, Valid, stateOf};
@@ -15,30 +15,42 @@ ghost use Rattle.c_record.specs.Calls.{loads, exports, imports};
 
 // An accepted load: of the record only `large` may change. The memory comes last, so that nothing stays live across it.
 // Answers how many bytes of the memory changed.
-fn load_valid(cart: &mut RecordBytes, memory: &mut [u8], file: &[u8]) -> u32
+fn load_valid(cart: &mut RecordBytes, memory: &mut [u8], tallies: &mut [u16], file: &[u8]) -> u32
     requires { ⌜ Valid (now cart) × (length (now memory) ≡ memorySize (cartOf (now cart) .kind)) ⌝ }
-    ensures { λ n. ⌜ (let s = stateOf (now (cart .entry)) (now (memory .entry)) in
-        (0, now (cart .exit), now (memory .exit), n)
+    requires { ⌜ length (now tallies) ≡ tallyCount (cartOf (now cart) .kind) ⌝ }
+    ensures { λ n. ⌜ (let s = stateOf (now (cart .entry)) (now (memory .entry)) (now (tallies .entry)) in
+        (0, now (cart .exit), now (memory .exit), now (tallies .exit), n)
         ≡ changedAt 0 (left (counted s (accepted (loadSave (now (file .entry))) [] s)))) ⌝ }
 {
     let large = cart[layout::LARGE] == 1;
     let next = file_calls::large_after(c_record::kind_in(cart), large, file.len());
     c_record::put_bit(cart, layout::LARGE, large, next);
-    memory::apply(Store::File, file, memory)
+    memory::apply(Store::File, file, memory, tallies)
 }
 
-pub fn load_save(cart: &mut RecordBytes, memory: &mut [u8], file: &[u8], changed: &mut u32) -> u32
-    ensures { λ x. ⌜ (x, now (cart .exit), now (memory .exit), now (changed .exit))
-        ≡ loads (now (file .entry)) (now (cart .entry)) (now (memory .entry)) (now (changed .entry)) ⌝ }
+pub fn load_save(
+    cart: &mut RecordBytes,
+    memory: &mut [u8],
+    tallies: &mut [u16],
+    file: &[u8],
+    changed: &mut u32,
+) -> u32
+    ensures { λ x. ⌜ (x, now (cart .exit), now (memory .exit), now (tallies .exit), now (changed .exit))
+        ≡ loads (now (file .entry)) (now (cart .entry)) (now (memory .entry))
+        (now (tallies .entry)) (now (changed .entry)) ⌝ }
 {
     if !quick_tests::is_record(cart) {
         return 2;
     }
-    if memory.len() != kind::memory_size(c_record::kind_in(cart)) {
+    let kind = c_record::kind_in(cart);
+    if memory.len() != kind::memory_size(kind) {
         return 3;
     }
+    if tallies.len() != kind::tally_count(kind) {
+        return 16;
+    }
     // a slice cut anew is passed in registers
-    *changed = load_valid(cart, memory, &file[..]);
+    *changed = load_valid(cart, memory, tallies, &file[..]);
     0
 }
 
@@ -66,12 +78,13 @@ pub fn save_data(cart: &RecordBytes, memory: &[u8], destination: &mut [u8], leng
 pub fn import_save(
     cart: &mut RecordBytes,
     memory: &mut [u8],
+    tallies: &mut [u16],
     file: &[u8],
     kept: &mut u32,
     changed: &mut u32,
 ) -> u32
-    ensures { λ x. ⌜ (x, now (cart .exit), now (memory .exit), now (kept .exit), now (changed .exit))
-        ≡ imports (now (file .entry)) (now (cart .entry)) (now (memory .entry))
+    ensures { λ x. ⌜ (x, now (cart .exit), now (memory .exit), now (tallies .exit), now (kept .exit), now (changed .exit))
+        ≡ imports (now (file .entry)) (now (cart .entry)) (now (memory .entry)) (now (tallies .entry))
         (now (kept .entry)) (now (changed .entry)) ⌝ }
 {
     if !c_record::is_record(cart) {
@@ -81,11 +94,14 @@ pub fn import_save(
     if memory.len() != kind::memory_size(kind) {
         return 3;
     }
+    if tallies.len() != kind::tally_count(kind) {
+        return 16;
+    }
     if !file_sizes::takes(kind, file.len()) {
         return 14;
     }
     let part = file_sizes::kept_part(kind, file);
-    *changed = load_valid(cart, memory, part);
+    *changed = load_valid(cart, memory, tallies, part);
     *kept = part.len() as u32;
     0
 }

@@ -11,11 +11,12 @@ use Rattle.cart.specs.Record.{State, Outcome}
 use Rattle.cart.specs.Replies.{first}
 use Rattle.c_record.specs.RecordBytes.{recordBytes, cartOf, isRecord, stateOf}
 
--- 0 or the number of a refusal, the record's bytes, memory and destination, and what the call answers
+-- 0 or the number of a refusal, the record's bytes, memory, tallies and destination, and what the call answers
 pub record AtExit : Type 0 where
   pub answer : ℕ
   pub bytes : List ℕ
   pub memory : List ℕ
+  pub tallies : List ℕ
   pub destination : List ℕ
   pub given : List ℕ
   pub flag : Bool
@@ -28,35 +29,49 @@ left o =
       answer = o .refusal;
       bytes = recordBytes (o .next .cart);
       memory = o .next .memory;
+      tallies = o .next .tallies;
       destination = o .destination;
       given = o .given;
       flag = o .flag;
       changed = o .changed;
     }
 
-abbrev pub untouched : ℕ → List ℕ → List ℕ → List ℕ → AtExit
-untouched number d r m =
-    record { answer = number; bytes = r; memory = m; destination = d; given = []; flag = false; changed = 0 }
+abbrev pub untouched : ℕ → List ℕ → List ℕ → List ℕ → List ℕ → AtExit
+untouched number d r m ts =
+    record {
+      answer = number;
+      bytes = r;
+      memory = m;
+      tallies = ts;
+      destination = d;
+      given = [];
+      flag = false;
+      changed = 0;
+    }
 
--- the call on a record's bytes r and a memory m, with a destination d
-unfoldable pub called : (State → Outcome) → List ℕ → List ℕ → List ℕ → AtExit
-called call d r m = cond (isRecord r) (left (call (stateOf r m))) (untouched 2 d r m)
+-- the call on a record's bytes r, a memory m and tallies ts, with a destination d
+unfoldable pub called : (State → Outcome) → List ℕ → List ℕ → List ℕ → List ℕ → AtExit
+called call d r m ts = cond (isRecord r) (left (call (stateOf r m ts))) (untouched 2 d r m ts)
 
--- what a caller sees: record and memory; with a place for one number, for the flag, or for the state's bytes; with
--- a destination
+-- what a caller sees: record and memory, and the tallies; with a place for one number, for the flag, or for the state's
+-- bytes; with a destination
 abbrev pub plain : AtExit → ℕ × List ℕ × List ℕ
 plain x = (x .answer, x .bytes, x .memory)
+
+abbrev pub talliedAt : AtExit → ℕ × List ℕ × List ℕ × List ℕ
+talliedAt x = (x .answer, x .bytes, x .memory, x .tallies)
 
 abbrev pub valueAt : ℕ → AtExit → ℕ × List ℕ × List ℕ × ℕ
 valueAt place x = (x .answer, x .bytes, x .memory, placed (x .answer) (first (x .given)) place)
 
--- with a place for the number of places changed; at import with both
-abbrev pub changedAt : ℕ → AtExit → ℕ × List ℕ × List ℕ × ℕ
-changedAt place x = (x .answer, x .bytes, x .memory, placed (x .answer) (x .changed) place)
+-- of a call that stores: with a place for the number of places changed; at import with both
+abbrev pub changedAt : ℕ → AtExit → ℕ × List ℕ × List ℕ × List ℕ × ℕ
+changedAt place x = (x .answer, x .bytes, x .memory, x .tallies, placed (x .answer) (x .changed) place)
 
-abbrev pub importAt : ℕ → ℕ → AtExit → ℕ × List ℕ × List ℕ × ℕ × ℕ
+abbrev pub importAt : ℕ → ℕ → AtExit → ℕ × List ℕ × List ℕ × List ℕ × ℕ × ℕ
 importAt kept changed x =
-    (x .answer, x .bytes, x .memory, placed (x .answer) (first (x .given)) kept, placed (x .answer) (x .changed) changed)
+    let n = x .answer in
+    (n, x .bytes, x .memory, x .tallies, placed n (first (x .given)) kept, placed n (x .changed) changed)
 
 abbrev pub flagAt : ℕ → AtExit → ℕ × List ℕ × List ℕ × ℕ
 flagAt place x = (x .answer, x .bytes, x .memory, placed (x .answer) (bit (x .flag)) place)

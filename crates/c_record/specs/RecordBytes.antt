@@ -13,7 +13,7 @@ use Rattle.part.specs.Part.{partNumber, partOf, numberFits}
 use Rattle.cart.specs.declared.Cartridge.{Cartridge}
 use Rattle.cart.specs.ChipState.{stateSize, chipBytes, chipOf, fieldQuestions}
 use Rattle.cart.specs.Record.{State, recordAllowed}
-use Rattle.cart.specs.Replies.{state}
+use Rattle.cart.specs.Replies.{tallied}
 
 -- how many they are, and where kind, flag, chip record and part are
 abbrev pub recordSize : ℕ
@@ -66,6 +66,6 @@ pub record Valid (r : List ℕ) : Type 0 where
   pub allowed : recordAllowed (cartOf r) ≡ true
   pub back : recordBytes (cartOf r) ≡ r
 
--- the state that bytes and memory are
-abbrev pub stateOf : List ℕ → List ℕ → State
-stateOf r m = state (cartOf r) m
+-- the state that bytes, memory and tallies are
+abbrev pub stateOf : List ℕ → List ℕ → List ℕ → State
+stateOf r m ts = tallied (cartOf r) m ts

@@ -10,7 +10,7 @@ ghost use mathlib.Core.Path.{_≡_};
 ghost use mathlib.Core.List.{List, []};
 ghost use Prim.Native.Nat.{ℕ, _<_};
 ghost use lib.ListN.{length};
-ghost use Rattle.memory.specs.Memory.{stored, withCount, stores as stores·spec, Fits};
+ghost use Rattle.memory.specs.Memory.{stored, withCount, stores as stores·spec, Tallied, Fits};
 ghost use Rattle.eeprom.specs.Eeprom.{turned};
 ghost use Rattle.c_record.specs.RecordBytes.{Valid};
 ghost use Rattle.c_record.specs.Fields.{withSerial};
@@ -52,28 +52,47 @@ pub fn eeprom_begin_dma(cart: &mut RecordBytes, words: u32) -> u32
 }
 
 // A bit that ends a phase. The record is updated first, so that nothing stays live across the store.
-fn turn_in(cart: &mut RecordBytes, memory: &mut [u8], e: Eeprom, acc: u64, b: u64) -> u32
+fn turn_in(
+    cart: &mut RecordBytes,
+    memory: &mut [u8],
+    tallies: &mut [u16],
+    e: Eeprom,
+    acc: u64,
+    b: u64,
+) -> u32
     requires { ⌜ (b < 2) × Fits (turned e acc b .store) (length (now memory)) ⌝ }
+    requires { ⌜ Tallied (length (now memory)) (now tallies) ⌝ }
     ensures { λ _. ⌜ now (cart .exit)
         ≡ withSerial (now (cart .entry)) (stores·spec (turned e acc b .store)) (turned e acc b .eeprom) ⌝ }
-    ensures { λ n. ⌜ (n, now (memory .exit))
-        ≡ withCount (now (memory .entry)) (stored (turned e acc b .store) [] (now (memory .entry))) ⌝ }
+    ensures { λ n. ⌜ (n, now (memory .exit), now (tallies .exit))
+        ≡ withCount (now (memory .entry)) (stored (turned e acc b .store) [] (now (memory .entry)))
+        (now (tallies .entry)) ⌝ }
 {
     let t = eeprom::turn(e, acc, b);
     let store = t.store;
     let next = t.eeprom;
     c_record::put_eeprom(cart, memory::stores(store), next);
-    memory::apply(store, &NO_FILE, memory)
+    memory::apply(store, &NO_FILE, memory, tallies)
 }
 
-fn write_valid(cart: &mut RecordBytes, memory: &mut [u8], value: u16, changed: &mut u32) -> u32
+fn write_valid(
+    cart: &mut RecordBytes,
+    memory: &mut [u8],
+    tallies: &mut [u16],
+    value: u16,
+    changed: &mut u32,
+) -> u32
     requires { ⌜ Valid (now cart) ⌝ }
-    ensures { λ x. ⌜ (x, now (cart .exit), now (memory .exit), now (changed .exit))
-        ≡ takesBit value (now (cart .entry)) (now (memory .entry)) (now (changed .entry)) ⌝ }
+    ensures { λ x. ⌜ (x, now (cart .exit), now (memory .exit), now (tallies .exit), now (changed .exit))
+        ≡ takesBit value (now (cart .entry)) (now (memory .entry))
+        (now (tallies .entry)) (now (changed .entry)) ⌝ }
 {
     let kind = c_record::kind_in(cart);
     if memory.len() != kind::memory_size(kind) {
         return 3;
+    }
+    if tallies.len() != kind::tally_count(kind) {
+        return 16;
     }
     if !kind::uses_eeprom(kind) {
         return 4;
@@ -89,33 +108,47 @@ fn write_valid(cart: &mut RecordBytes, memory: &mut [u8], value: u16, changed: &
             0
         }
         Shifted::Full(acc) => {
-            *changed = turn_in(cart, memory, e, acc, b);
+            *changed = turn_in(cart, memory, tallies, e, acc, b);
             0
         }
     }
 }
 
-fn write_any(cart: &mut RecordBytes, memory: &mut [u8], value: u16, changed: &mut u32) -> u32
-    ensures { λ x. ⌜ (x, now (cart .exit), now (memory .exit), now (changed .exit))
-        ≡ takesBit value (now (cart .entry)) (now (memory .entry)) (now (changed .entry)) ⌝ }
+fn write_any(
+    cart: &mut RecordBytes,
+    memory: &mut [u8],
+    tallies: &mut [u16],
+    value: u16,
+    changed: &mut u32,
+) -> u32
+    ensures { λ x. ⌜ (x, now (cart .exit), now (memory .exit), now (tallies .exit), now (changed .exit))
+        ≡ takesBit value (now (cart .entry)) (now (memory .entry))
+        (now (tallies .entry)) (now (changed .entry)) ⌝ }
 {
     if !c_record::is_record(cart) {
         return 2;
     }
-    write_valid(cart, &mut memory[..], value, changed)
+    write_valid(cart, &mut memory[..], &mut tallies[..], value, changed)
 }
 
-pub fn eeprom_write(cart: &mut RecordBytes, memory: &mut [u8], value: u16, changed: &mut u32) -> u32
-    ensures { λ x. ⌜ (x, now (cart .exit), now (memory .exit), now (changed .exit))
-        ≡ takesBit value (now (cart .entry)) (now (memory .entry)) (now (changed .entry)) ⌝ }
+pub fn eeprom_write(
+    cart: &mut RecordBytes,
+    memory: &mut [u8],
+    tallies: &mut [u16],
+    value: u16,
+    changed: &mut u32,
+) -> u32
+    ensures { λ x. ⌜ (x, now (cart .exit), now (memory .exit), now (tallies .exit), now (changed .exit))
+        ≡ takesBit value (now (cart .entry)) (now (memory .entry))
+        (now (tallies .entry)) (now (changed .entry)) ⌝ }
 {
     if !quick_tests::known(cart) {
-        return write_any(cart, memory, value, changed);
+        return write_any(cart, memory, tallies, value, changed);
     }
     if !quick_tests::serial_usual(cart) {
-        return write_any(cart, memory, value, changed);
+        return write_any(cart, memory, tallies, value, changed);
     }
-    write_valid(cart, memory, value, changed)
+    write_valid(cart, memory, tallies, value, changed)
 }
 
 fn read_valid(cart: &mut RecordBytes, memory: &[u8], bit: &mut u32) -> u32

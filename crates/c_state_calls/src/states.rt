@@ -12,11 +12,17 @@ ghost use Rattle.c_record.specs.RecordBytes.{recordSize, chipAt, chipIn};
 ghost use Rattle.c_record.specs.Calls.{opens, givesState, restores};
 
 // The record is written whatever it was: all 0 if the opening is refused.
-pub fn from_bytes(cart: &mut RecordBytes, image: &[u8], part: u32, memory: &mut [u8]) -> u32
-    ensures { λ x. ⌜ (x, now (cart .exit), now (memory .exit))
-        ≡ opens (now (image .entry)) part (now (memory .entry)) ⌝ }
+pub fn from_bytes(
+    cart: &mut RecordBytes,
+    image: &[u8],
+    part: u32,
+    memory: &mut [u8],
+    tallies: &mut [u16],
+) -> u32
+    ensures { λ x. ⌜ (x, now (cart .exit), now (memory .exit), now (tallies .exit))
+        ≡ opens (now (image .entry)) part (now (memory .entry)) (now (tallies .entry)) ⌝ }
 {
-    let opened = state_calls::from_number(image, part, memory);
+    let opened = state_calls::from_number(image, part, memory, tallies);
     let next = opened.cart;
     *cart = c_record::record_bytes(next);
     opened.refusal as u32

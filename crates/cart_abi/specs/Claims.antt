@@ -18,18 +18,18 @@ use Rattle.cart_abi.specs.Host.{ExportedCall, saveRead, saveWrite, eepro
 use Rattle.cart_abi.specs.Host.{loadSave, saveData, chipState, takeSaveDirty, importSave}
 use Rattle.cart_abi.specs.Host.{Bytes, Made, found, made, make}
 
--- a call that returns n and leaves record, memory, destination, state and out-parameters as they were passed
+-- a call that returns n and leaves record, memory, tallies, destination, state and out-parameters as they were passed
 abbrev pub unchanged : ExportedCall → ℕ → Bytes → Made
-unchanged (saveRead a p) n b = made (found n p 0 []) 0 (b .bytes) (b .memory)
-unchanged (saveWrite a v p) n b = made (found n 0 p []) 0 (b .bytes) (b .memory)
-unchanged (eepromBeginDma words) n b = made (found n 0 0 []) 0 (b .bytes) (b .memory)
-unchanged (eepromWrite v p) n b = made (found n 0 p []) 0 (b .bytes) (b .memory)
-unchanged (eepromRead p) n b = made (found n p 0 []) 0 (b .bytes) (b .memory)
-unchanged (loadSave f p) n b = made (found n 0 p []) 0 (b .bytes) (b .memory)
-unchanged (saveData d p) n b = made (found n p 0 d) 0 (b .bytes) (b .memory)
-unchanged (chipState p) n b = made (found n 0 0 p) 0 (b .bytes) (b .memory)
-unchanged (takeSaveDirty p) n b = made (found n 0 0 []) p (b .bytes) (b .memory)
-unchanged (importSave f k p) n b = made (found n k p []) 0 (b .bytes) (b .memory)
+unchanged (saveRead a p) n b = made (found n p 0 []) 0 (b .bytes) (b .memory) (b .tallies)
+unchanged (saveWrite a v p) n b = made (found n 0 p []) 0 (b .bytes) (b .memory) (b .tallies)
+unchanged (eepromBeginDma words) n b = made (found n 0 0 []) 0 (b .bytes) (b .memory) (b .tallies)
+unchanged (eepromWrite v p) n b = made (found n 0 p []) 0 (b .bytes) (b .memory) (b .tallies)
+unchanged (eepromRead p) n b = made (found n p 0 []) 0 (b .bytes) (b .memory) (b .tallies)
+unchanged (loadSave f p) n b = made (found n 0 p []) 0 (b .bytes) (b .memory) (b .tallies)
+unchanged (saveData d p) n b = made (found n p 0 d) 0 (b .bytes) (b .memory) (b .tallies)
+unchanged (chipState p) n b = made (found n 0 0 p) 0 (b .bytes) (b .memory) (b .tallies)
+unchanged (takeSaveDirty p) n b = made (found n 0 0 []) p (b .bytes) (b .memory) (b .tallies)
+unchanged (importSave f k p) n b = made (found n k p []) 0 (b .bytes) (b .memory) (b .tallies)
 
 -- "opening, given none, returns one of kind None with all else 0"
 abbrev pub noRecord : List ℕ
@@ -40,8 +40,8 @@ pub record RefusedLeaves : Type 0 where
       → make c b ≡ unchanged c (make c b .found .answer) b
   pub restore : (state r m : List ℕ) → areBytes r ≡ true → restores state r m .0 ≢ 0
       → restores state r m ≡ (restores state r m .0, r, m)
-  pub opening : (image : List ℕ) (part : ℕ) (m : List ℕ) → opens image part m .0 ≢ 0
-      → opens image part m ≡ (opens image part m .0, noRecord, m)
+  pub opening : (image : List ℕ) (part : ℕ) (m ts : List ℕ) → opens image part m ts .0 ≢ 0
+      → opens image part m ts ≡ (opens image part m ts .0, noRecord, m, ts)
   -- the calls that answer one number of a record alone, or of an image; and the title
   pub ofRecord : (ask : Cartridge → Answer) (r : List ℕ) (p : ℕ) → askedAt ask r p .0 ≢ 0
       → askedAt ask r p ≡ (askedAt ask r p .0, p)

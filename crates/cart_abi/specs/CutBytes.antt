@@ -1,4 +1,4 @@
--- Cut runs of the exported calls. Document 01, "Cut runs", and demand 3, of a record's bytes and a memory.
+-- Cut runs of the exported calls. Document 01, "Cut runs", and demand 3, of a record's bytes, a memory and tallies.
 use mathlib.Core.Path.{_≡_}
 use mathlib.Core.Bool.{true, false, cond}
 use mathlib.Core.List.{List, [], _∷_, map, List·Memᴰ}
@@ -17,28 +17,29 @@ use Rattle.cart.specs.Resume.{Open}
 use Rattle.cart.specs.Replies.{first}
 use Rattle.c_record.specs.RecordBytes.{isRecord, stateOf}
 use Rattle.c_record.specs.Calls.{opens, loads, exports, givesState, restores}
+use Rattle.cart_abi.specs.Host as host
 use Rattle.cart_abi.specs.Host.{ExportedCall, saveRead, saveWrite, eepromBeginDma, eepromWrite, eepromRead}
 use Rattle.cart_abi.specs.Host.{loadSave, saveData, chipState, takeSaveDirty, importSave}
 use Rattle.cart_abi.specs.Host.{Bytes, Found, found, plainly, stored, make}
 
--- a valid record's bytes and a memory that are a cartridge of the image with the part, whatever its chip, memory and
--- flag hold
+-- a valid record's bytes, a memory and its tallies that are a cartridge of the image with the part, whatever its chip,
+-- memory and flag hold
 pub record OpenBytes (image : List ℕ) (part : ℕ) (b : Bytes) : Type 0 where
   pub bytesOk : areBytes (b .bytes) ≡ true
   pub valid : isRecord (b .bytes) ≡ true
-  pub isOpen : Open image part (stateOf (b .bytes) (b .memory))
+  pub isOpen : Open image part (stateOf (b .bytes) (b .memory) (b .tallies))
 
--- where a host goes on after a cut: "open the same image", with the same part and a memory; or, without an opening, in
--- a cartridge of the image and part that is open
+-- where a host goes on after a cut: "open the same image", with the same part, a memory and tallies; or, without an
+-- opening, in a cartridge of the image and part that is open
 pub data Target (image : List ℕ) (part : ℕ) : Type 0 where
-  anew : (memory : List ℕ) → opens image part memory .0 ≡ 0 → Target image part
+  anew : (memory tallies : List ℕ) → opens image part memory tallies .0 ≡ 0 → Target image part
   inPlace : (b : Bytes) → OpenBytes image part b → Target image part
 
-abbrev pub opened : List ℕ → ℕ → List ℕ → Bytes
-opened image part memory = plainly (opens image part memory) .next
+abbrev pub opened : List ℕ → ℕ → List ℕ → List ℕ → Bytes
+opened image part memory tallies = host.opened (opens image part memory tallies) .next
 
 abbrev pub begun : {image : List ℕ} {part : ℕ} → Target image part → Bytes
-begun {image} {part} (anew memory h) = opened image part memory
+begun {image} {part} (anew memory tallies h) = opened image part memory tallies
 begun (inPlace b h) = b
 
 -- what a host has for a cut: a destination as long as the kind's memory at least, places for the file's length, for the
@@ -65,10 +66,10 @@ stateLeft x b = givesState (b .bytes) (b .memory) (x .state) .3
 -- "load the file where there is one, restore"
 abbrev pub reloaded : ℕ → Option (List ℕ) → Bytes → Bytes
 reloaded place none b = b
-reloaded place (some f) b = stored (loads f (b .bytes) (b .memory) place) .next
+reloaded place (some f) b = stored (loads f (b .bytes) (b .memory) (b .tallies) place) .next
 
 abbrev pub restored : List ℕ → Bytes → Bytes
-restored state b = plainly (restores state (b .bytes) (b .memory)) .next
+restored state b = plainly (b .tallies) (restores state (b .bytes) (b .memory)) .next
 
 unfoldable pub cut : (image : List ℕ) (part : ℕ) → Buffers image part → Bytes → Bytes
 cut image part x b = restored (stateLeft x b) (reloaded (x .changed) (fileLeft x b) (begun (x .target)))
@@ -84,18 +85,20 @@ pub record Turn (image : List ℕ) (part : ℕ) : Type 0 where
 
 -- "Compared are the answers of the list's own calls, with refusal numbers and the bytes of export destinations, and
 -- at the list's end the file, or that there is none, and the 18 bytes. Left out are the answer of `take_save_dirty`
--- and the flag in the records."
+-- and the flag in the records." At the list's end the tallies are compared too.
 pub record Compared : Type 0 where
   pub calls : List Found
   pub file : Option (List ℕ)
   pub state : List ℕ
+  pub tallies : List ℕ
 
 abbrev pub before : Found → Compared → Compared
-before f r = record { calls = f ∷ r .calls; file = r .file; state = r .state }
+before f r = record { calls = f ∷ r .calls; file = r .file; state = r .state; tallies = r .tallies }
 
 -- `end` is passed at the list's end
 unfoldable pub run : (image : List ℕ) (part : ℕ) → List (Turn image part) → Buffers image part → Bytes → Compared
-run image part [] end b = record { calls = []; file = fileLeft end b; state = stateLeft end b }
+run image part [] end b =
+    record { calls = []; file = fileLeft end b; state = stateLeft end b; tallies = b .tallies }
 run image part (t ∷ list) end b =
     let m = make (t .call) b in
     before (m .found) (run image part list end (cuts image part (t .cutsBehind) (m .next)))
@@ -133,7 +136,7 @@ foundOf (importSave f k p) o = found (o .refusal) (numberAt k o) (changedAt p o)
 
 -- the machine run uncut through the same list
 unfoldable pub machineRun : List ExportedCall → State → Compared
-machineRun [] s = record { calls = []; file = machineFile s; state = machineState s }
+machineRun [] s = record { calls = []; file = machineFile s; state = machineState s; tallies = s .tallies }
 machineRun (c ∷ list) s = let o = outcomeOf c s in before (foundOf c o) (machineRun list (o .next))
 
 abbrev pub callsOf : {image : List ℕ} {part : ℕ} → List (Turn image part) → List ExportedCall
@@ -151,13 +154,13 @@ NoByteWrites image list =
 -- demand 3 of the exported calls: after an accepted opening and any cuts, a list with its cuts shows what document
 -- 01's machine shows uncut, and so what the list shows without its cuts
 pub record ExportedCutRuns : Type 0 where
-  pub asMachine : (image : List ℕ) (part : ℕ) (memory : List ℕ) (atFirst : List (Buffers image part))
+  pub asMachine : (image : List ℕ) (part : ℕ) (memory tallies : List ℕ) (atFirst : List (Buffers image part))
       → (list : List (Turn image part)) (end : Buffers image part)
-      → opens image part memory .0 ≡ 0 → NoByteWrites image (callsOf list)
-      → run image part list end (cuts image part atFirst (opened image part memory))
-      ≡ machineRun (callsOf list) (fromBytes image part memory .next)
-  pub asUncut : (image : List ℕ) (part : ℕ) (memory : List ℕ) (atFirst : List (Buffers image part))
+      → opens image part memory tallies .0 ≡ 0 → NoByteWrites image (callsOf list)
+      → run image part list end (cuts image part atFirst (opened image part memory tallies))
+      ≡ machineRun (callsOf list) (fromBytes image part memory tallies .next)
+  pub asUncut : (image : List ℕ) (part : ℕ) (memory tallies : List ℕ) (atFirst : List (Buffers image part))
       → (list : List (Turn image part)) (end : Buffers image part)
-      → opens image part memory .0 ≡ 0 → NoByteWrites image (callsOf list)
-      → run image part list end (cuts image part atFirst (opened image part memory))
-      ≡ run image part (uncut list) end (opened image part memory)
+      → opens image part memory tallies .0 ≡ 0 → NoByteWrites image (callsOf list)
+      → run image part list end (cuts image part atFirst (opened image part memory tallies))
+      ≡ run image part (uncut list) end (opened image part memory tallies)

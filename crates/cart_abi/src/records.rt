@@ -6,6 +6,7 @@ ghost use mathlib.Core.List.{List};
 ghost use Prim.Native.Nat.{ℕ};
 ghost use Rattle.c_record.specs.Calls.{opens, reads, writes, announces, takesBit, givesBit, loads, exports, imports};
 ghost use Rattle.c_record.specs.Calls.{givesState, restores, takesFlag, tellsEeprom, tellsWindow};
+ghost use Rattle.c_record.specs.Calls.{tellsBlank, tellsInUse};
 
 #[no_mangle]
 pub extern "C" fn gbasave_save_read(
@@ -24,14 +25,16 @@ pub extern "C" fn gbasave_save_read(
 pub extern "C" fn gbasave_save_write(
     cart: &mut RecordBytes,
     memory: &mut [u8],
+    tallies: &mut [u16],
     address: u32,
     value: u8,
     changed: &mut u32,
 ) -> u32
-    ensures { λ x. ⌜ (x, now (cart .exit), now (memory .exit), now (changed .exit))
-        ≡ writes address value (now (cart .entry)) (now (memory .entry)) (now (changed .entry)) ⌝ }
+    ensures { λ x. ⌜ (x, now (cart .exit), now (memory .exit), now (tallies .exit), now (changed .exit))
+        ≡ writes address value (now (cart .entry)) (now (memory .entry))
+        (now (tallies .entry)) (now (changed .entry)) ⌝ }
 {
-    c_byte_calls::save_write(cart, memory, address, value, changed)
+    c_byte_calls::save_write(cart, memory, tallies, address, value, changed)
 }
 
 #[no_mangle]
@@ -45,13 +48,15 @@ pub extern "C" fn gbasave_eeprom_begin_dma(cart: &mut RecordBytes, words: u32) -
 pub extern "C" fn gbasave_eeprom_write(
     cart: &mut RecordBytes,
     memory: &mut [u8],
+    tallies: &mut [u16],
     value: u16,
     changed: &mut u32,
 ) -> u32
-    ensures { λ x. ⌜ (x, now (cart .exit), now (memory .exit), now (changed .exit))
-        ≡ takesBit value (now (cart .entry)) (now (memory .entry)) (now (changed .entry)) ⌝ }
+    ensures { λ x. ⌜ (x, now (cart .exit), now (memory .exit), now (tallies .exit), now (changed .exit))
+        ≡ takesBit value (now (cart .entry)) (now (memory .entry))
+        (now (tallies .entry)) (now (changed .entry)) ⌝ }
 {
-    c_serial_calls::eeprom_write(cart, memory, value, changed)
+    c_serial_calls::eeprom_write(cart, memory, tallies, value, changed)
 }
 
 #[no_mangle]
@@ -66,13 +71,15 @@ pub extern "C" fn gbasave_eeprom_read(cart: &mut RecordBytes, memory: &[u8], bit
 pub extern "C" fn gbasave_load_save(
     cart: &mut RecordBytes,
     memory: &mut [u8],
+    tallies: &mut [u16],
     file: &[u8],
     changed: &mut u32,
 ) -> u32
-    ensures { λ x. ⌜ (x, now (cart .exit), now (memory .exit), now (changed .exit))
-        ≡ loads (now (file .entry)) (now (cart .entry)) (now (memory .entry)) (now (changed .entry)) ⌝ }
+    ensures { λ x. ⌜ (x, now (cart .exit), now (memory .exit), now (tallies .exit), now (changed .exit))
+        ≡ loads (now (file .entry)) (now (cart .entry)) (now (memory .entry))
+        (now (tallies .entry)) (now (changed .entry)) ⌝ }
 {
-    c_file_calls::load_save(cart, memory, file, changed)
+    c_file_calls::load_save(cart, memory, tallies, file, changed)
 }
 
 // Kind None has no file: the length is then 0.
@@ -93,15 +100,16 @@ pub extern "C" fn gbasave_save_data(
 pub extern "C" fn gbasave_import_save(
     cart: &mut RecordBytes,
     memory: &mut [u8],
+    tallies: &mut [u16],
     file: &[u8],
     kept: &mut u32,
     changed: &mut u32,
 ) -> u32
-    ensures { λ x. ⌜ (x, now (cart .exit), now (memory .exit), now (kept .exit), now (changed .exit))
-        ≡ imports (now (file .entry)) (now (cart .entry)) (now (memory .entry))
+    ensures { λ x. ⌜ (x, now (cart .exit), now (memory .exit), now (tallies .exit), now (kept .exit), now (changed .exit))
+        ≡ imports (now (file .entry)) (now (cart .entry)) (now (memory .entry)) (now (tallies .entry))
         (now (kept .entry)) (now (changed .entry)) ⌝ }
 {
-    c_file_calls::import_save(cart, memory, file, kept, changed)
+    c_file_calls::import_save(cart, memory, tallies, file, kept, changed)
 }
 
 #[no_mangle]
@@ -110,11 +118,12 @@ pub extern "C" fn gbasave_from_bytes(
     image: &[u8],
     part: u32,
     memory: &mut [u8],
+    tallies: &mut [u16],
 ) -> u32
-    ensures { λ x. ⌜ (x, now (cart .exit), now (memory .exit))
-        ≡ opens (now (image .entry)) part (now (memory .entry)) ⌝ }
+    ensures { λ x. ⌜ (x, now (cart .exit), now (memory .exit), now (tallies .exit))
+        ≡ opens (now (image .entry)) part (now (memory .entry)) (now (tallies .entry)) ⌝ }
 {
-    c_state_calls::from_bytes(cart, image, part, memory)
+    c_state_calls::from_bytes(cart, image, part, memory, tallies)
 }
 
 #[no_mangle]
@@ -154,4 +163,24 @@ pub extern "C" fn gbasave_eeprom_window_start(cart: &RecordBytes, start: &mut u3
     ensures { λ x. ⌜ (x, now (start .exit)) ≡ tellsWindow (now (cart .entry)) (now (start .entry)) ⌝ }
 {
     c_state_calls::eeprom_window_start(cart, start)
+}
+
+#[no_mangle]
+pub extern "C" fn gbasave_is_blank(cart: &RecordBytes, tallies: &[u16], blank: &mut u32) -> u32
+    ensures { λ x. ⌜ (x, now (blank .exit))
+        ≡ tellsBlank (now (cart .entry)) (now (tallies .entry)) (now (blank .entry)) ⌝ }
+{
+    c_state_calls::is_blank(cart, tallies, blank)
+}
+
+#[no_mangle]
+pub extern "C" fn gbasave_first_in_use(
+    cart: &RecordBytes,
+    tallies: &[u16],
+    stretch: &mut u32,
+) -> u32
+    ensures { λ x. ⌜ (x, now (stretch .exit))
+        ≡ tellsInUse (now (cart .entry)) (now (tallies .entry)) (now (stretch .entry)) ⌝ }
+{
+    c_state_calls::first_in_use(cart, tallies, stretch)
 }

@@ -9,7 +9,7 @@ use Rattle.cart.specs.declared.ChipRecord.{ChipRecord}
 use Rattle.cart.specs.declared.Cartridge.{Cartridge}
 use Rattle.cart.specs.declared.Reply.{Reply}
 use Rattle.cart.specs.Calls.{eepromWrite, step}
-use Rattle.cart.specs.Replies.{state, reply, replied}
+use Rattle.cart.specs.Replies.{tallied, reply, storeReplied}
 use Rattle.chip_by_reference.specs.declared.LentReply.{LentReply}
 
 -- the record that the parameters make
@@ -17,17 +17,17 @@ abbrev pub cartFrom : ℕ → SaveType → Part → Bool → ChipRecord → Cart
 cartFrom len kind part dirty chip = record { len = len; kind = kind; part = part; dirty = dirty; chip = chip }
 
 -- what the contract of `serial_calls::eeprom_write` says of it
-abbrev pub plainCall : ℕ → SaveType → Part → Bool → ChipRecord → List ℕ → ℕ → Reply × List ℕ
-plainCall len kind part dirty chip m v =
-    replied (step (eepromWrite v) [] (state (cartFrom len kind part dirty chip) m))
+abbrev pub plainCall : ℕ → SaveType → Part → Bool → ChipRecord → List ℕ → List ℕ → ℕ → Reply × List ℕ × List ℕ
+plainCall len kind part dirty chip m ts v =
+    storeReplied (step (eepromWrite v) [] (tallied (cartFrom len kind part dirty chip) m ts))
 
--- a reply and a memory, with the chip record apart
-abbrev pub apart : Reply × List ℕ → LentReply × ChipRecord × List ℕ
+-- a reply, a memory and tallies, with the chip record apart
+abbrev pub apart : Reply × List ℕ × List ℕ → LentReply × ChipRecord × List ℕ × List ℕ
 apart p =
     let r : LentReply = record { refusal = p .0 .refusal; changed = p .0 .changed; dirty = p .0 .cart .dirty } in
-    (r, p .0 .cart .chip, p .1)
+    (r, p .0 .cart .chip, p .1, p .2)
 
 -- and together again; the plain call's value is 0
-abbrev pub together : ℕ → SaveType → Part → LentReply × ChipRecord × List ℕ → Reply × List ℕ
+abbrev pub together : ℕ → SaveType → Part → LentReply × ChipRecord × List ℕ × List ℕ → Reply × List ℕ × List ℕ
 together len kind part p =
-    (reply (p .0 .refusal) 0 (p .0 .changed) (cartFrom len kind part (p .0 .dirty) (p .1)), p .2)
+    (reply (p .0 .refusal) 0 (p .0 .changed) (cartFrom len kind part (p .0 .dirty) (p .1)), p .2, p .3)

@@ -27,10 +27,11 @@ pub fn eeprom_write_chip(
     part: Part,
     dirty: bool,
     memory: &mut [u8],
+    tallies: &mut [u16],
     value: u16,
 ) -> ChipReply
-    ensures { λ r. ⌜ (r .reply, r .chip, now (memory .exit))
-        ≡ apart (plainCall len kind part dirty chip (now (memory .entry)) value) ⌝ }
+    ensures { λ r. ⌜ (r .reply, r .chip, now (memory .exit), now (tallies .exit))
+        ≡ apart (plainCall len kind part dirty chip (now (memory .entry)) (now (tallies .entry)) value) ⌝ }
 {
     let cart = Cartridge {
         len: len,
@@ -39,7 +40,7 @@ pub fn eeprom_write_chip(
         dirty: dirty,
         chip: chip,
     };
-    let plain = serial_calls::eeprom_write(cart, memory, value);
+    let plain = serial_calls::eeprom_write(cart, memory, tallies, value);
     let after = plain.cart;
     let next = after.chip;
     ChipReply {
@@ -60,12 +61,13 @@ pub fn eeprom_write_lent(
     part: Part,
     dirty: bool,
     memory: &mut [u8],
+    tallies: &mut [u16],
     value: u16,
 ) -> LentReply
-    ensures { λ r. ⌜ (r, now (chip .exit), now (memory .exit))
-        ≡ apart (plainCall len kind part dirty (now (chip .entry)) (now (memory .entry)) value) ⌝ }
+    ensures { λ r. ⌜ (r, now (chip .exit), now (memory .exit), now (tallies .exit))
+        ≡ apart (plainCall len kind part dirty (now (chip .entry)) (now (memory .entry)) (now (tallies .entry)) value) ⌝ }
 {
-    let next = eeprom_write_chip(*chip, len, kind, part, dirty, memory, value);
+    let next = eeprom_write_chip(*chip, len, kind, part, dirty, memory, tallies, value);
     *chip = next.chip;
     next.reply
 }
@@ -78,13 +80,14 @@ pub fn eeprom_write_copy(
     part: Part,
     dirty: bool,
     memory: &mut [u8],
+    tallies: &mut [u16],
     value: u16,
 ) -> ChipReply
-    ensures { λ r. ⌜ (r .reply, r .chip, now (memory .exit))
-        ≡ apart (plainCall len kind part dirty chip (now (memory .entry)) value) ⌝ }
+    ensures { λ r. ⌜ (r .reply, r .chip, now (memory .exit), now (tallies .exit))
+        ≡ apart (plainCall len kind part dirty chip (now (memory .entry)) (now (tallies .entry)) value) ⌝ }
 {
     let mut copy = chip;
-    let reply = eeprom_write_lent(&mut copy, len, kind, part, dirty, memory, value);
+    let reply = eeprom_write_lent(&mut copy, len, kind, part, dirty, memory, tallies, value);
     ChipReply {
         chip: copy,
         reply: reply,

@@ -8,6 +8,7 @@ pub use counting::differing_short;
 pub use counting::used;
 pub use counting::used_short;
 pub use tallies::NONE_IN_USE;
+pub use tallies::clear;
 pub use tallies::first_in_use;
 pub use tallies::is_blank;
 pub use tallies::retally;

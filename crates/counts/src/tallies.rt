@@ -1,11 +1,22 @@
 // Tallies: one changed by a store, and what they answer.
 ghost use mathlib.Core.Path.{_≡_};
 ghost use Prim.Native.Nat.{_≤_};
-ghost use lib.ListN.{length};
+ghost use lib.ListN.{length, replicate};
 ghost use Rattle.counts.specs.Tallies.{retally as retally·spec, blank, firstInUse, inUseNumber};
 
 // The answer of `first_in_use` where no stretch is in use.
 pub const NONE_IN_USE: u32 = 4294967295;
+
+// Every tally becomes 0.
+pub fn clear(tallies: &mut [u16])
+    ensures { λ _. ⌜ now (tallies .exit) ≡ replicate (length (now (tallies .entry))) 0 ⌝ }
+{
+    let mut k = 0;
+    while k < tallies.len() {
+        tallies[k] = 0;
+        k += 1;
+    }
+}
 
 // A stretch's tally after a store, by the bytes in use before it and after it.
 pub fn retally(tally: u16, before: u32, after: u32) -> u16

@@ -11,5 +11,6 @@ use Rattle.cart.specs.Calls.{loadSave, step, restore}
 abbrev pub loadedFrom : List ℕ → State → State
 loadedFrom f t = cond (eqb (length f) 0) t (step (loadSave f) [] t .next)
 
-abbrev pub resumed : List ℕ → ℕ → List ℕ → List ℕ → List ℕ → State
-resumed image part memory file bytes = restore bytes (loadedFrom file (fromBytes image part memory .next)) .next
+abbrev pub resumed : List ℕ → ℕ → List ℕ → List ℕ → List ℕ → List ℕ → State
+resumed image part memory tallies file bytes =
+    restore bytes (loadedFrom file (fromBytes image part memory tallies .next)) .next

@@ -7,10 +7,10 @@ use memory::Store;
 ghost use mathlib.Core.Path.{_≡_};
 ghost use mathlib.Core.List.{[]};
 ghost use lib.ListN.{length};
-ghost use Rattle.kind.specs.Kind.{memorySize};
+ghost use Rattle.kind.specs.Kind.{memorySize, tallyCount};
 ghost use Rattle.cart.specs.Record.{counted};
 ghost use Rattle.cart.specs.Calls.{largeAfter, loadSave, saveData, accepted, step};
-ghost use Rattle.cart.specs.Replies.{state, replied, exportReplied};
+ghost use Rattle.cart.specs.Replies.{state, tallied, exportReplied, storeReplied};
 ghost use Rattle.file_calls.specs.Files.{eepromLength, fileLength};
 
 // Whether an EEPROM is large after a file of n bytes was loaded.
@@ -27,15 +27,17 @@ pub fn large_after(kind: SaveType, large: bool, n: usize) -> bool
 }
 
 // An accepted `load_save`.
-fn load(cart: Cartridge, memory: &mut [u8], file: &[u8]) -> Reply
+fn load(cart: Cartridge, memory: &mut [u8], tallies: &mut [u16], file: &[u8]) -> Reply
     requires { ⌜ length (now memory) ≡ memorySize (cart .kind) ⌝ }
-    ensures { λ r. ⌜ (let s = state cart (now (memory .entry)) in
-        (r, now (memory .exit)) ≡ replied (counted s (accepted (loadSave (now (file .entry))) [] s))) ⌝ }
+    requires { ⌜ length (now tallies) ≡ tallyCount (cart .kind) ⌝ }
+    ensures { λ r. ⌜ (let s = tallied cart (now (memory .entry)) (now (tallies .entry)) in
+        (r, now (memory .exit), now (tallies .exit))
+        ≡ storeReplied (counted s (accepted (loadSave (now (file .entry))) [] s))) ⌝ }
 {
     let kind = cart.kind;
     let chip = cart.chip;
     let e = chip.eeprom;
-    let changed = memory::apply(Store::File, file, memory);
+    let changed = memory::apply(Store::File, file, memory, tallies);
     cart::stored(
         changed,
         cart::with_eeprom(
@@ -46,15 +48,16 @@ fn load(cart: Cartridge, memory: &mut [u8], file: &[u8]) -> Reply
     )
 }
 
-pub fn load_save(cart: Cartridge, memory: &mut [u8], file: &[u8]) -> Reply
-    ensures { λ r. ⌜ (r, now (memory .exit))
-        ≡ replied (step (loadSave (now (file .entry))) [] (state cart (now (memory .entry)))) ⌝ }
+pub fn load_save(cart: Cartridge, memory: &mut [u8], tallies: &mut [u16], file: &[u8]) -> Reply
+    ensures { λ r. ⌜ (let s = tallied cart (now (memory .entry)) (now (tallies .entry)) in
+        (r, now (memory .exit), now (tallies .exit))
+        ≡ storeReplied (step (loadSave (now (file .entry))) [] s)) ⌝ }
 {
-    let refusal = cart::door(cart, memory.len());
+    let refusal = cart::store_door(cart, memory.len(), tallies.len());
     if refusal != 0 {
         return cart::refuse(refusal, cart);
     }
-    load(cart, memory, file)
+    load(cart, memory, tallies, file)
 }
 
 fn eeprom_length(large: bool) -> usize

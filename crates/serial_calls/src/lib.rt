@@ -8,10 +8,10 @@ ghost use mathlib.Core.Bool.{true};
 ghost use mathlib.Core.List.{List, []};
 ghost use Prim.Native.Nat.{ℕ};
 ghost use lib.ListN.{length};
-ghost use Rattle.kind.specs.Kind.{memorySize, usesEeprom};
+ghost use Rattle.kind.specs.Kind.{memorySize, tallyCount, usesEeprom};
 ghost use Rattle.cart.specs.Record.{recordAllowed, counted};
 ghost use Rattle.cart.specs.Calls.{eepromBeginDma, eepromWrite, eepromRead, accepted, step};
-ghost use Rattle.cart.specs.Replies.{state, replied};
+ghost use Rattle.cart.specs.Replies.{state, tallied, replied, storeReplied};
 
 // Takes no memory; the contract holds for any memory.
 pub fn eeprom_begin_dma(cart: Cartridge, words: usize) -> Reply
@@ -32,19 +32,21 @@ pub fn eeprom_begin_dma(cart: Cartridge, words: usize) -> Reply
 }
 
 // An accepted `eeprom_write`.
-fn bit_in(cart: Cartridge, memory: &mut [u8], value: u16) -> Reply
+fn bit_in(cart: Cartridge, memory: &mut [u8], tallies: &mut [u16], value: u16) -> Reply
     requires { ⌜ (recordAllowed cart ≡ true)
         × (usesEeprom (cart .kind) ≡ true)
-        × (length (now memory) ≡ memorySize (cart .kind)) ⌝ }
-    ensures { λ r. ⌜ (let s = state cart (now (memory .entry)) in
-        (r, now (memory .exit)) ≡ replied (counted s (accepted (eepromWrite value) [] s))) ⌝ }
+        × (length (now memory) ≡ memorySize (cart .kind))
+        × (length (now tallies) ≡ tallyCount (cart .kind)) ⌝ }
+    ensures { λ r. ⌜ (let s = tallied cart (now (memory .entry)) (now (tallies .entry)) in
+        (r, now (memory .exit), now (tallies .exit))
+        ≡ storeReplied (counted s (accepted (eepromWrite value) [] s))) ⌝ }
 {
     let chip = cart.chip;
     let e = chip.eeprom;
     let t = eeprom::write_bit(e, (value % 2) as u64);
     let store = t.store;
     let next = t.eeprom;
-    let changed = memory::apply(store, &NO_FILE, memory);
+    let changed = memory::apply(store, &NO_FILE, memory, tallies);
     cart::stored(
         changed,
         cart::with_eeprom(
@@ -55,11 +57,12 @@ fn bit_in(cart: Cartridge, memory: &mut [u8], value: u16) -> Reply
     )
 }
 
-pub fn eeprom_write(cart: Cartridge, memory: &mut [u8], value: u16) -> Reply
-    ensures { λ r. ⌜ (r, now (memory .exit))
-        ≡ replied (step (eepromWrite value) [] (state cart (now (memory .entry)))) ⌝ }
+pub fn eeprom_write(cart: Cartridge, memory: &mut [u8], tallies: &mut [u16], value: u16) -> Reply
+    ensures { λ r. ⌜ (let s = tallied cart (now (memory .entry)) (now (tallies .entry)) in
+        (r, now (memory .exit), now (tallies .exit))
+        ≡ storeReplied (step (eepromWrite value) [] s)) ⌝ }
 {
-    let refusal = cart::door(cart, memory.len());
+    let refusal = cart::store_door(cart, memory.len(), tallies.len());
     if refusal != 0 {
         return cart::refuse(refusal, cart);
     }
@@ -67,7 +70,7 @@ pub fn eeprom_write(cart: Cartridge, memory: &mut [u8], value: u16) -> Reply
     if !kind::uses_eeprom(kind) {
         return cart::refuse(4, cart);
     }
-    bit_in(cart, memory, value)
+    bit_in(cart, memory, tallies, value)
 }
 
 pub fn eeprom_read(cart: Cartridge, memory: &[u8]) -> Reply

@@ -1,4 +1,5 @@
-// The calls by value on a whole record: opening, `chip_state`, restore, `take_save_dirty` and the EEPROM questions.
+// The calls by value on a whole record: opening, `chip_state`, restore, `take_save_dirty`, the EEPROM questions, and what
+// the tallies tell.
 
 use cart::Cartridge;
 use cart::Reply;
@@ -6,8 +7,6 @@ use cart::STATE_SIZE;
 use cart::StateBytes;
 use image::Answer;
 use kind::SaveType;
-use memory::NO_FILE;
-use memory::Store;
 use part::Part;
 ghost use mathlib.Core.Path.{_≡_};
 ghost use mathlib.Core.List.{List, []};
@@ -17,7 +16,8 @@ ghost use Rattle.part.specs.declared.Part.the-variants.{Usual};
 ghost use Rattle.part.specs.Part.{partNumber};
 ghost use Rattle.cart.specs.Record.{freshCart, fromBytes};
 ghost use Rattle.cart.specs.Calls.{chipState, takeSaveDirty, step, restore, usesEepromOf, eepromWindowStart};
-ghost use Rattle.cart.specs.Replies.{state, replied, flagReplied};
+ghost use Rattle.cart.specs.Calls.{isBlank, inUse};
+ghost use Rattle.cart.specs.Replies.{state, replied, storeReplied, flagReplied};
 ghost use Rattle.state_calls.specs.StateAnswer.{stateAnswer, stateAnswered};
 
 // The number of a refusal or 0, and the chip record's bytes, all 0 if refused.
@@ -32,11 +32,11 @@ fn no_cart() -> Cartridge
     cart::fresh_cart(0, SaveType::None, Part::Usual)
 }
 
-// Opens an image with the part of a number, and erases its memory. A refused opening returns a record of kind None with
-// all else 0.
-pub fn from_number(image: &[u8], part: u32, memory: &mut [u8]) -> Reply
-    ensures { λ r. ⌜ (r, now (memory .exit))
-        ≡ replied (fromBytes (now (image .entry)) part (now (memory .entry))) ⌝ }
+// Opens an image with the part of a number, erases its memory and sets its tallies to 0. A refused opening returns a
+// record of kind None with all else 0.
+pub fn from_number(image: &[u8], part: u32, memory: &mut [u8], tallies: &mut [u16]) -> Reply
+    ensures { λ r. ⌜ (r, now (memory .exit), now (tallies .exit))
+        ≡ storeReplied (fromBytes (now (image .entry)) part (now (memory .entry)) (now (tallies .entry))) ⌝ }
 {
     if !image::image_length(image.len()) {
         return cart::refuse(1, no_cart());
@@ -45,18 +45,21 @@ pub fn from_number(image: &[u8], part: u32, memory: &mut [u8]) -> Reply
     if memory.len() != kind::memory_size(kind) {
         return cart::refuse(3, no_cart());
     }
+    if tallies.len() != kind::tally_count(kind) {
+        return cart::refuse(16, no_cart());
+    }
     if !part::number_fits(part, kind) {
         return cart::refuse(15, no_cart());
     }
-    memory::apply(Store::Chip, &NO_FILE, memory);
+    memory::blank(memory, tallies);
     cart::done(0, cart::fresh_cart(image.len(), kind, part::part_of(part)))
 }
 
-pub fn from_bytes(image: &[u8], part: Part, memory: &mut [u8]) -> Reply
-    ensures { λ r. ⌜ (r, now (memory .exit))
-        ≡ replied (fromBytes (now (image .entry)) (partNumber part) (now (memory .entry))) ⌝ }
+pub fn from_bytes(image: &[u8], part: Part, memory: &mut [u8], tallies: &mut [u16]) -> Reply
+    ensures { λ r. ⌜ (r, now (memory .exit), now (tallies .exit))
+        ≡ storeReplied (fromBytes (now (image .entry)) (partNumber part) (now (memory .entry)) (now (tallies .entry))) ⌝ }
 {
-    from_number(image, part::part_number(part) as u32, memory)
+    from_number(image, part::part_number(part) as u32, memory, tallies)
 }
 
 fn state_answer(refusal: u8, bytes: StateBytes) -> StateAnswer
@@ -123,4 +126,31 @@ pub fn eeprom_window_start(cart: Cartridge) -> Answer
         return image::refuse(2);
     }
     image::accept(kind::window_start(cart.len))
+}
+
+// The calls below take no memory: the tallies tell.
+pub fn is_blank(cart: Cartridge, tallies: &[u16]) -> Answer
+    ensures { λ r. ⌜ r ≡ isBlank cart (now (tallies .entry)) ⌝ }
+{
+    if !cart::record_allowed(cart) {
+        return image::refuse(2);
+    }
+    let kind = cart.kind;
+    if tallies.len() != kind::tally_count(kind) {
+        return image::refuse(16);
+    }
+    image::accept(lists::bit(counts::is_blank(tallies)) as u32)
+}
+
+pub fn first_in_use(cart: Cartridge, tallies: &[u16]) -> Answer
+    ensures { λ r. ⌜ r ≡ inUse cart (now (tallies .entry)) ⌝ }
+{
+    if !cart::record_allowed(cart) {
+        return image::refuse(2);
+    }
+    let kind = cart.kind;
+    if tallies.len() != kind::tally_count(kind) {
+        return image::refuse(16);
+    }
+    image::accept(counts::first_in_use(tallies))
 }
