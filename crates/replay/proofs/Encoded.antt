@@ -23,12 +23,12 @@ use Rattle.cart.proofs.CutRuns.{cut-runs}
 use Rattle.call_list.specs.declared.Item.{Item}
 use Rattle.call_list.specs.declared.Item.the-variants.{SaveRead, SaveWrite, EepromRead, EepromWrite, BeginDma, TakeFlag, ChipState, LoadSave, SaveData, Cut, Bad}
 use Rattle.call_list.specs.Items.{Place, items, isWrite, byteWrites}
-use Rattle.replay.specs.Replay.{Answered, fileAnswer, replayQuestions, play, playAll, notCut, ending, recordAnswer, uncutRun}
+use Rattle.replay.specs.Replay.{Answered, fileAnswer, ownTallies, replayQuestions, play, playAll, notCut, ending, recordAnswer, uncutRun}
 use Rattle.replay.specs.Replay as replay
 use Rattle.replay.specs.Claims.{cutsInFront, turn, turnOr, turns, shownBytes, callsBytes, fileBytes, encoded, ReplayRuns}
 use Rattle.replay.proofs.Same.{isByteWrite, no-write, fresh-stands}
 use Rattle.replay.proofs.Runs.{both-false, writes-more}
-use Rattle.replay.proofs.Whole.{opens, opens-here, next-fresh, no-byte-write, memory-length}
+use Rattle.replay.proofs.Whole.{opens-own, opens-here, next-fresh, no-byte-write, memory-length}
 
 file-bytes : (n : ℕ) (f : Option (List ℕ)) (s : State) → fileAnswer (exported f (replicate n 0) s) .bytes ≡ fileBytes n f
 file-bytes n none s = refl
@@ -50,40 +50,40 @@ memory-is : (image : List ℕ) (part : ℕ) (s : State) → Recoverable image pa
 memory-is image part s r = r .sound .memoryOk ∙ ap memorySize (r .kindIs)
 
 -- what is left to show
-abbrev shownFrom : List ℕ → ℕ → List ℕ → List Turn → State → List ℕ
-shownFrom image part memory list s = encoded (memorySize (detectSaveType image)) list (run image part memory (uncut list) s)
+abbrev shownFrom : List ℕ → ℕ → List ℕ → List ℕ → List Turn → State → List ℕ
+shownFrom image part memory tallies list s = encoded (memorySize (detectSaveType image)) list (run image part memory tallies (uncut list) s)
 
 -- a call in front of a list
-call-more : (image : List ℕ) (part : ℕ) (memory : List ℕ) (c : Call) (d : List ℕ) (k : ℕ) (list : List Turn) (s : State) (rest : Answered)
+call-more : (image : List ℕ) (part : ℕ) (memory tallies : List ℕ) (c : Call) (d : List ℕ) (k : ℕ) (list : List Turn) (s : State) (rest : Answered)
     → let o = step c d s in
-    rest .bytes ++ ending (rest .next) ≡ shownFrom image part memory list (o .next)
-    → (shownBytes c (shown o) ++ rest .bytes) ++ ending (rest .next) ≡ shownFrom image part memory (turn c d k ∷ list) s
+    rest .bytes ++ ending (rest .next) ≡ shownFrom image part memory tallies list (o .next)
+    → (shownBytes c (shown o) ++ rest .bytes) ++ ending (rest .next) ≡ shownFrom image part memory tallies (turn c d k ∷ list) s
 unfolding encoded callsBytes run cuts
-call-more image part memory c d k list s rest e =
+call-more image part memory tallies c d k list s rest e =
     let o = step c d s in
     let b : List ℕ = shownBytes c (shown o) in
-    let r = run image part memory (uncut list) (o .next) in
+    let r = run image part memory tallies (uncut list) (o .next) in
     append-assoc b (rest .bytes) (ending (rest .next)) ∙ ap (λ (l : List ℕ). b ++ l) e
     ∙ sym (append-assoc b (callsBytes (map (λ t. t .call) list) (r .calls)) (fileBytes (memorySize (detectSaveType image)) (r .file) ++ (0 ∷ r .bytes)))
 
 -- an item in front of a list that is known to be shown
-abbrev Shows : List ℕ → ℕ → List ℕ → List Place → Type 0
-Shows image part memory list = (t : State) → Recoverable image part t → let r = playAll notCut list t in r .bytes ++ ending (r .next) ≡ shownFrom image part memory (turns list) t
+abbrev Shows : List ℕ → ℕ → List ℕ → List ℕ → List Place → Type 0
+Shows image part memory tallies list = (t : State) → Recoverable image part t → let r = playAll notCut list t in r .bytes ++ ending (r .next) ≡ shownFrom image part memory tallies (turns list) t
 
-module _ (image : List ℕ) (part : ℕ) (memory : List ℕ) (list : List Place) (k : ℕ) (s : State) (r : Recoverable image part s) (h : Shows image part memory list) where
+module _ (image : List ℕ) (part : ℕ) (memory tallies : List ℕ) (list : List Place) (k : ℕ) (s : State) (r : Recoverable image part s) (h : Shows image part memory tallies list) where
   call-shown : (c : Call) (d : List ℕ) → isByteWrite c && usesEeprom (detectSaveType image) ≡ false
       → let o = step c d s in
       let rest = playAll notCut list (o .next) in
       (shownBytes c (shown o) ++ rest .bytes) ++ ending (rest .next)
-      ≡ shownFrom image part memory (turn c d k ∷ turns list) s
+      ≡ shownFrom image part memory tallies (turn c d k ∷ turns list) s
   call-shown c d w =
       let o = step c d s in
-      call-more image part memory c d k (turns list) s (playAll notCut list (o .next)) (h (o .next) (recoverable-step image part c d s (no-write (detectSaveType image) c w) r))
+      call-more image part memory tallies c d k (turns list) s (playAll notCut list (o .next)) (h (o .next) (recoverable-step image part c d s (no-write (detectSaveType image) c w) r))
 
   item-shown : (i : Item) (l : List ℕ) → isWrite i && usesEeprom (detectSaveType image) ≡ false
       → let a = play notCut i l s in
       let rest = playAll notCut list (a .next) in
-      (a .bytes ++ rest .bytes) ++ ending (rest .next) ≡ shownFrom image part memory (turnOr i l k (turns list)) s
+      (a .bytes ++ rest .bytes) ++ ending (rest .next) ≡ shownFrom image part memory tallies (turnOr i l k (turns list)) s
   unfolding play
   item-shown (SaveRead a) l w = call-shown (saveRead a) [] refl
   item-shown (SaveWrite a v) l w = call-shown (saveWrite a v) [] w
@@ -97,18 +97,18 @@ module _ (image : List ℕ) (part : ℕ) (memory : List ℕ) (list : List Place)
   item-shown Cut l w = h s r
   item-shown Bad l w = h s r
 
-ending-shown : (image : List ℕ) (part : ℕ) (memory : List ℕ) (s : State) → Recoverable image part s → ending s ≡ shownFrom image part memory [] s
+ending-shown : (image : List ℕ) (part : ℕ) (memory tallies : List ℕ) (s : State) → Recoverable image part s → ending s ≡ shownFrom image part memory tallies [] s
 unfolding encoded callsBytes run
-ending-shown image part memory s r = ending-is image part s r ∙ ap (λ (n : ℕ). fileBytes n (fileLeft s) ++ (0 ∷ bytesLeft s)) (memory-is image part s r)
+ending-shown image part memory tallies s r = ending-is image part s r ∙ ap (λ (n : ℕ). fileBytes n (fileLeft s) ++ (0 ∷ bytesLeft s)) (memory-is image part s r)
 
 -- the list whole
-answers-shown : (image : List ℕ) (part : ℕ) (memory : List ℕ) (list : List Place) → byteWrites list && usesEeprom (detectSaveType image) ≡ false → Shows image part memory list
+answers-shown : (image : List ℕ) (part : ℕ) (memory tallies : List ℕ) (list : List Place) → byteWrites list && usesEeprom (detectSaveType image) ≡ false → Shows image part memory tallies list
 unfolding playAll turns
-answers-shown image part memory [] w s r = ending-shown image part memory s r
-answers-shown image part memory (p ∷ list) w s r =
+answers-shown image part memory tallies [] w s r = ending-shown image part memory tallies s r
+answers-shown image part memory tallies (p ∷ list) w s r =
     let e : Bool = usesEeprom (detectSaveType image) in
     let b = both-false (isWrite (p .item)) (byteWrites list) e (writes-more p list e w) in
-    item-shown image part memory list (cutsInFront list) s r (answers-shown image part memory list (b .1)) (p .item) (p .bytes) (b .0)
+    item-shown image part memory tallies list (cutsInFront list) s r (answers-shown image part memory tallies list (b .1)) (p .item) (p .bytes) (b .0)
 
 -- a byte write among the calls is one among the items
 anyWrite : List Call → Bool
@@ -151,7 +151,7 @@ module _ (image : List ℕ) (part : ℕ) (bytes memory scratch out : List ℕ) (
   list = turns (items 0 bytes)
 
   abbrev s : State
-  s = fromBytes image part memory .next
+  s = fromBytes image part memory (ownTallies image) .next
 
   accepts : number ≡ 0
   unfolding replay.replay
@@ -160,21 +160,21 @@ module _ (image : List ℕ) (part : ℕ) (bytes memory scratch out : List ℕ) (
   w : byteWrites (items 0 bytes) && usesEeprom (detectSaveType image) ≡ false
   w = no-byte-write image part bytes memory scratch out number refl accepts
 
-  without-cuts : replay.replay image part bytes memory scratch out .3 ≡ into (encoded (length memory) list (run image part memory (uncut list) s)) out
+  without-cuts : replay.replay image part bytes memory scratch out .3 ≡ into (encoded (length memory) list (run image part memory (ownTallies image) (uncut list) s)) out
   unfolding replay.replay uncutRun
   without-cuts =
       let f = next-fresh image part bytes memory scratch out number refl accepts in
-      let r : Recoverable image part s = subst (Recoverable image part) (sym f) (fresh-stands image part memory (opens image part bytes memory scratch out number refl accepts memory refl)) in
+      let r : Recoverable image part s = subst (Recoverable image part) (sym f) (fresh-stands image part memory (ownTallies image) (opens-own image part bytes memory scratch out number refl accepts)) in
       rw accepts
       (ap (λ (l : List ℕ). into l out)
-      (answers-shown image part memory (items 0 bytes) w s r
-      ∙ ap (λ (n : ℕ). encoded n list (run image part memory (uncut list) s)) (sym (memory-length image part bytes memory scratch out number refl accepts))))
+      (answers-shown image part memory (ownTallies image) (items 0 bytes) w s r
+      ∙ ap (λ (n : ℕ). encoded n list (run image part memory (ownTallies image) (uncut list) s)) (sym (memory-length image part bytes memory scratch out number refl accepts))))
 
-  with-cuts : replay.replay image part bytes memory scratch out .3 ≡ into (encoded (length memory) list (run image part memory list s)) out
+  with-cuts : replay.replay image part bytes memory scratch out .3 ≡ into (encoded (length memory) list (run image part memory (ownTallies image) list s)) out
   with-cuts =
       without-cuts
       ∙ ap (λ (r : Compared). into (encoded (length memory) list r) out)
-      (sym (cut-runs image part memory list (opens-here image part bytes memory scratch out number refl accepts) (no-writes image (items 0 bytes) w)))
+      (sym (cut-runs image part memory (ownTallies image) list (opens-here image part bytes memory scratch out number refl accepts) (no-writes image (items 0 bytes) w)))
 
 pub replay-runs : ReplayRuns
 replay-runs = record { withoutCuts = without-cuts; withCuts = with-cuts }

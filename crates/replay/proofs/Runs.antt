@@ -13,14 +13,14 @@ use Rattle.kind.specs.Kind.{usesEeprom, detectSaveType}
 use Rattle.part.specs.Part.{partOf, numberFits}
 use Rattle.cart.specs.declared.Cartridge.{Cartridge}
 use Rattle.cart.specs.Record.{State, openQuestions, fresh}
-use Rattle.cart.specs.Replies.{state}
+use Rattle.cart.specs.Replies.{state, tallied}
 use Rattle.cart.proofs.Recoverable.{Recoverable}
 use Rattle.cart.proofs.Resume.{quiet}
 use Rattle.call_list.specs.declared.Item.{Item}
 use Rattle.call_list.specs.Items.{Place, itemIn, itemLength, itemRoom, endingRoom, items, isWrite, byteWrites, room}
 use Rattle.call_list.proofs.Places.{next-item, item-fits}
 use Rattle.replay.specs.Replay.{Answered, answered, play, playAll, ending, notCut, cutAt, shownBy, uncutRun, left}
-use Rattle.replay.proofs.Same.{part-stands, fresh-stands, plays-same, ends-same}
+use Rattle.replay.proofs.Same.{part-stands, fresh-stands, plays-same, ends-same, ending-apart}
 
 -- the items from byte i on
 abbrev pub itemsFrom : ℕ → List ℕ → List Place
@@ -31,7 +31,7 @@ abbrev behind : List ℕ → Answered → Answered
 behind front a = answered (front ++ a .bytes) (a .next)
 
 -- front: the answers of the items before byte i; uncut: the state of the machine that is not cut
-pub record Ran (image : List ℕ) (part : ℕ) (list m₀ scratch₀ out₀ m scratch out : List ℕ) (cart : Cartridge) (at i : ℕ) : Type 0 where
+pub record Ran (image : List ℕ) (part : ℕ) (list m₀ ts₀ scratch₀ out₀ m ts scratch out : List ℕ) (cart : Cartridge) (at i : ℕ) : Type 0 where
   pub front : List ℕ
   pub uncut : State
   pub placeOk : i ≤ length list
@@ -39,18 +39,19 @@ pub record Ran (image : List ℕ) (part : ℕ) (list m₀ scratch₀ out₀ m sc
   pub roomOk : at + room (itemsFrom i list) + endingRoom (length m) ≤ length out₀
   pub outIs : out ≡ into front out₀
   pub memoryOk : length m ≡ length m₀
+  pub talliesOk : length ts ≡ length ts₀
   pub scratchOk : length scratch ≡ length scratch₀
   pub writesOk : byteWrites (itemsFrom i list) && usesEeprom (detectSaveType image) ≡ false
   pub partOk : numberFits part (detectSaveType image) ≡ true
-  pub stands : Recoverable image part (state cart m)
-  pub same : quiet (state cart m) ≡ quiet uncut
+  pub stands : Recoverable image part (tallied cart m ts)
+  pub same : quiet (tallied cart m ts) ≡ quiet uncut
   pub wholeIs : playAll notCut (items 0 list) (fresh image (partOf part)) ≡ behind front (playAll notCut (itemsFrom i list) uncut)
 
-pub ran-start : (image : List ℕ) (part : ℕ) (list m scratch out : List ℕ) (cart : Cartridge) → state cart m ≡ fresh image (partOf part) → asked (openQuestions image part m) ≡ 0
+pub ran-start : (image : List ℕ) (part : ℕ) (list m ts scratch out : List ℕ) (cart : Cartridge) → tallied cart m ts ≡ fresh image (partOf part) → asked (openQuestions image part m ts) ≡ 0
     → byteWrites (items 0 list) && usesEeprom (detectSaveType image) ≡ false → room (items 0 list) + endingRoom (length m) ≤ length out
-    → Ran image part list m scratch out m scratch out cart 0 0
+    → Ran image part list m ts scratch out m ts scratch out cart 0 0
 unfolding into
-ran-start image part list m scratch out cart e q w h =
+ran-start image part list m ts scratch out cart e q w h =
     record {
       front = [];
       uncut = fresh image (partOf part);
@@ -59,10 +60,11 @@ ran-start image part list m scratch out cart e q w h =
       roomOk = omega (arith, h);
       outIs = refl;
       memoryOk = refl;
+      talliesOk = refl;
       scratchOk = refl;
       writesOk = w;
-      partOk = part-stands image part m q;
-      stands = rw e (fresh-stands image part m q);
+      partOk = part-stands image part m ts q;
+      stands = rw e (fresh-stands image part m ts q);
       same = ap quiet e;
       wholeIs = refl;
     }
@@ -94,7 +96,7 @@ played-more front p list t =
     let a = playAll notCut list (q .next) in
     ap (λ (l : List ℕ). answered l (a .next)) (sym (append-assoc front (q .bytes) (a .bytes)))
 
-module _ {image : List ℕ} {part : ℕ} {list m₀ scratch₀ out₀ m scratch out : List ℕ} {cart : Cartridge} {at i : ℕ} (r : Ran image part list m₀ scratch₀ out₀ m scratch out cart at i) where
+module _ {image : List ℕ} {part : ℕ} {list m₀ ts₀ scratch₀ out₀ m ts scratch out : List ℕ} {cart : Cartridge} {at i : ℕ} (r : Ran image part list m₀ ts₀ scratch₀ out₀ m ts scratch out cart at i) where
   pub out-length : length out ≡ length out₀
   out-length = ap length (r .outIs) ∙ length-into (r .front) out₀ (omega (arith, r .atIs, r .roomOk))
 
@@ -112,12 +114,12 @@ module _ {image : List ℕ} {part : ℕ} {list m₀ scratch₀ out₀ m scratch 
       omega (arith, r .roomOk, g)
 
   -- an item: o is what it answers, stored from `at` on
-  pub goes-on : i < length list → (item : Item) → item ≡ itemIn (drop i list) → (n k : ℕ) → n ≡ itemRoom item → k ≡ itemLength item → {m' scratch' o out' : List ℕ} {cart' : Cartridge}
-      → _≡_ {A = State × List ℕ} (state cart' m', o) (left (play (cutAt image part) item (drop i list) (state cart m)))
-      → length o ≡ n → length m' ≡ length m → length scratch' ≡ length scratch → out' ≡ take at out ++ (o ++ drop n (drop at out))
-      → Ran image part list m₀ scratch₀ out₀ m' scratch' out' cart' (at + n) (i + k)
-  goes-on h item y' n k z a {m'} {scratch'} {o} {out'} {cart'} e l lm ls d =
-      let s : State = state cart m in
+  pub goes-on : i < length list → (item : Item) → item ≡ itemIn (drop i list) → (n k : ℕ) → n ≡ itemRoom item → k ≡ itemLength item → {m' ts' scratch' o out' : List ℕ} {cart' : Cartridge}
+      → _≡_ {A = State × List ℕ} (tallied cart' m' ts', o) (left (play (cutAt image part) item (drop i list) (tallied cart m ts)))
+      → length o ≡ n → length m' ≡ length m → length ts' ≡ length ts → length scratch' ≡ length scratch → out' ≡ take at out ++ (o ++ drop n (drop at out))
+      → Ran image part list m₀ ts₀ scratch₀ out₀ m' ts' scratch' out' cart' (at + n) (i + k)
+  goes-on h item y' n k z a {m'} {ts'} {scratch'} {o} {out'} {cart'} e l lm lt ls d =
+      let s : State = tallied cart m ts in
       let t : State = r .uncut in
       let more : List Place = itemsFrom (i + k) list in
       let here : Place = record { item = item; bytes = drop i list } in
@@ -140,6 +142,7 @@ module _ {image : List ℕ} {part : ℕ} {list m₀ scratch₀ out₀ m scratch 
             d ∙ put-piece (r .front) o out₀ out at n (r .atIs) (omega (arith, r .roomOk)) (r .outIs) l
             ∙ ap (λ (bs : List ℕ). into (r .front ++ bs) out₀) b;
         memoryOk = lm ∙ r .memoryOk;
+        talliesOk = lt ∙ r .talliesOk;
         scratchOk = ls ∙ r .scratchOk;
         writesOk = w .1;
         partOk = r .partOk;
@@ -157,7 +160,7 @@ module _ {image : List ℕ} {part : ℕ} {list m₀ scratch₀ out₀ m scratch 
       let z : drop i list ≡ [] = ap (λ (k : ℕ). drop k list) y ∙ drop-length list in
       let w : playAll notCut (items 0 list) (fresh image (partOf part)) ≡ answered (r .front) (r .uncut) =
       r .wholeIs ∙ (λ j. behind (r .front) (playAll notCut (items 0 (z j)) (r .uncut))) ∙ (λ j. answered (append-nil (r .front) j) (r .uncut)) in
-      let t : o ≡ ending (r .uncut) = e ∙ ends-same image part (state cart m) (r .uncut) (r .same) (r .stands) in
+      let t : o ≡ ending (r .uncut) = e ∙ sym (ending-apart ts (state cart m)) ∙ ends-same image part (tallied cart m ts) (r .uncut) (r .same) (r .stands) in
       let g : out' ≡ into (r .front ++ ending (r .uncut)) out₀ =
       d ∙ put-piece (r .front) o out₀ out at n (r .atIs) (omega (arith, r .roomOk)) (r .outIs) l ∙ ap (λ (bs : List ℕ). into (r .front ++ bs) out₀) t in
       (λ j. (r .same j .memory, g j)) ∙ (λ j. shownBy (answered (sym w j .bytes ++ ending (sym w j .next)) (sym w j .next)) out₀)

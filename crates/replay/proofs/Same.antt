@@ -1,5 +1,5 @@
 -- Where a cut falls, the machine that is cut goes on as the one that is not. Assumes nothing.
-use mathlib.Core.Path.{_≡_, refl, sym, ap, _∙_}
+use mathlib.Core.Path.{_≡_, refl, sym, ap, ap₂, _∙_}
 use mathlib.Core.Bool.{Bool, true, false, _&&_}
 use mathlib.Core.List.{List, [], _++_}
 use Prim.Native.Nat.{ℕ}
@@ -10,11 +10,14 @@ use Rattle.lists.specs.Questions.{asked}
 use Rattle.lists.proofs.Questions.{yes-all}
 use Rattle.image.specs.Image.{imageLength}
 use Rattle.kind.specs.declared.SaveType.{SaveType}
-use Rattle.kind.specs.Kind.{memorySize, usesEeprom, detectSaveType}
+use Rattle.kind.specs.Kind.{memorySize, tallyCount, usesEeprom, detectSaveType}
 use Rattle.part.specs.Part.{partOf, numberFits}
 use Rattle.cart.specs.Record.{State, Outcome, openQuestions, fromBytes, fresh}
 use Rattle.cart.specs.Calls.{Call, saveRead, saveWrite, eepromBeginDma, eepromWrite, eepromRead, loadSave, saveData, chipState, takeSaveDirty, step}
 use Rattle.cart.specs.Cut.{cut}
+use Rattle.cart.specs.Stretches.{withTallies}
+use Rattle.cart.proofs.Tallies.{right-fit}
+use Rattle.cart.proofs.Stretches.{stretches}
 use Rattle.cart.proofs.Recoverable.{Recoverable, NoByteWrite, recoverable-step, recoverable-fresh}
 use Rattle.cart.proofs.Resume.{quiet, cut-quiet}
 use Rattle.cart.proofs.CutRuns.{unflagged, step-same, recoverable-flag}
@@ -24,22 +27,23 @@ use Rattle.call_list.specs.Items.{isWrite}
 use Rattle.replay.specs.Replay.{Answered, statusAnswer, valueAnswer, recordAnswer, fileAnswer, play, notCut, cutAt, ending}
 
 -- the image of a state that is recoverable opens again, with a part's number that fits
-open-yes : (image : List ℕ) (part : ℕ) (s : State) → Recoverable image part s → numberFits part (detectSaveType image) ≡ true → asked (openQuestions image part (s .memory)) ≡ 0
+open-yes : (image : List ℕ) (part : ℕ) (s : State) → Recoverable image part s → numberFits part (detectSaveType image) ≡ true → asked (openQuestions image part (s .memory) (s .tallies)) ≡ 0
 open-yes image part s r f =
     let l : imageLength (length image) ≡ true = rw (sym (r .lenIs)) (r .sound .lenOk) in
     let m : eqb (length (s .memory)) (memorySize (detectSaveType image)) ≡ true = eq-eqb _ _ (r .sound .memoryOk ∙ ap memorySize (r .kindIs)) in
-    rw (l, m, f)
+    let t : eqb (length (s .tallies)) (tallyCount (detectSaveType image)) ≡ true = eq-eqb _ _ (right-fit s (r .right) .count ∙ ap tallyCount (r .kindIs)) in
+    rw (l, m, t, f)
 
-opens : (image : List ℕ) (part : ℕ) (s : State) → Recoverable image part s → numberFits part (detectSaveType image) ≡ true → fromBytes image part (s .memory) .refusal ≡ 0
+opens : (image : List ℕ) (part : ℕ) (s : State) → Recoverable image part s → numberFits part (detectSaveType image) ≡ true → fromBytes image part (s .memory) (s .tallies) .refusal ≡ 0
 unfolding fromBytes
 opens image part s r f = rw (open-yes image part s r f)
 
-pub fresh-stands : (image : List ℕ) (part : ℕ) (memory : List ℕ) → asked (openQuestions image part memory) ≡ 0 → Recoverable image part (fresh image (partOf part))
+pub fresh-stands : (image : List ℕ) (part : ℕ) (memory tallies : List ℕ) → asked (openQuestions image part memory tallies) ≡ 0 → Recoverable image part (fresh image (partOf part))
 unfolding fromBytes
-fresh-stands image part memory e = recoverable-fresh image part memory (rw e)
+fresh-stands image part memory tallies e = recoverable-fresh image part memory tallies (rw e)
 
-pub part-stands : (image : List ℕ) (part : ℕ) (memory : List ℕ) → asked (openQuestions image part memory) ≡ 0 → numberFits part (detectSaveType image) ≡ true
-part-stands image part memory e = yes-all (openQuestions image part memory) refl e .1 .1 .0
+pub part-stands : (image : List ℕ) (part : ℕ) (memory tallies : List ℕ) → asked (openQuestions image part memory tallies) ≡ 0 → numberFits part (detectSaveType image) ≡ true
+part-stands image part memory tallies e = yes-all (openQuestions image part memory tallies) refl e .1 .1 .1 .0
 
 -- which calls are byte writes
 abbrev pub isByteWrite : Call → Bool
@@ -86,7 +90,7 @@ module _ (image : List ℕ) (part : ℕ) (s t : State) (e : quiet s ≡ quiet t)
   plays-same f (LoadSave n) l w = alike (called (λ o. statusAnswer o .bytes) (loadSave (take n (drop 5 l))) [] refl (λ o. refl))
   plays-same f (SaveData n) l w = alike (called (λ o. fileAnswer o .bytes) saveData (replicate n 0) refl (λ o. refl))
   plays-same f Cut l w =
-      let q : cut image part (s .memory) s ≡ quiet s = cut-quiet image part (s .memory) s (opens image part s r f) r in
+      let q : cut image part (s .memory) (s .tallies) s ≡ quiet s = cut-quiet image part (s .memory) (s .tallies) s (opens image part s r f) r in
       record { bytesSame = refl; stillSame = ap quiet q ∙ e; stillStands = rw q (recoverable-flag image part false s r) }
   plays-same f Bad l w = record { bytesSame = refl; stillSame = e; stillStands = r }
 
@@ -98,3 +102,10 @@ module _ (image : List ℕ) (part : ℕ) (s t : State) (e : quiet s ≡ quiet t)
       called (λ o. fileAnswer o .bytes) saveData (replicate (length (s .memory)) 0) refl (λ o. refl) .0 in
       let g = called (λ o. recordAnswer o .bytes) chipState [] refl (λ o. refl) .0 in
       (λ i. f i ++ g i) ∙ ap (λ (k : ℕ). fileAnswer (step saveData (replicate k 0) t) .bytes ++ recordAnswer (step chipState [] t) .bytes) n
+
+-- the ending shows nothing of the tallies
+pub ending-apart : (ts : List ℕ) (s : State) → ending (withTallies ts s) ≡ ending s
+unfolding ending
+ending-apart ts s =
+    ap₂ _++_ (ap (λ (o : Outcome). fileAnswer o .bytes) (stretches .apart ts saveData (replicate (length (s .memory)) 0) s refl))
+    (ap (λ (o : Outcome). recordAnswer o .bytes) (stretches .apart ts chipState [] s refl))

@@ -11,7 +11,8 @@ use Rattle.cart.specs.declared.Cartridge.{Cartridge}
 use Rattle.cart.specs.declared.Reply.{Reply}
 use Rattle.cart.specs.Record.{State, Outcome}
 use Rattle.cart.specs.Calls.{saveData, fileOf, questions, accepted, step}
-use Rattle.cart.specs.Replies.{state, replied}
+use Rattle.cart.specs.Replies.{tallied, replied}
+use Rattle.cart.specs.Stretches.{withTallies, besideTallies}
 use Rattle.cart.proofs.Recoverable.{exported-next}
 use Rattle.state_calls.specs.declared.StateAnswer.{StateAnswer}
 use Rattle.state_calls.specs.StateAnswer.{stateAnswered}
@@ -20,20 +21,27 @@ use Rattle.call_list.specs.declared.Item.the-variants.{LoadSave, SaveData}
 use Rattle.call_list.specs.Items.{itemLength, itemRoom}
 use Rattle.replay.specs.Replay.{valueAnswer, recordAnswer, left, statusShown, valueShown}
 
-pub shows-status : {reply q : Reply} {m n out : List ℕ} {r : Cartridge} → _≡_ {A = Reply × List ℕ} (reply, m) (q, n)
+pub shows-status : {reply q : Reply} {m n ts us out : List ℕ} {r : Cartridge} → _≡_ {A = Reply × List ℕ × List ℕ} (reply, m, ts) (q, n, us)
     → _≡_ {A = Cartridge × List ℕ} (r, out) (statusShown reply)
-    → _≡_ {A = State × List ℕ} (state r m, out) (state (q .cart) n, q .refusal ∷ [])
-shows-status {m = m} e h = (λ i. (state (h i .0) m, h i .1)) ∙ (λ i. (state (e i .0 .cart) (e i .1), e i .0 .refusal ∷ []))
+    → _≡_ {A = State × List ℕ} (tallied r m ts, out) (tallied (q .cart) n us, q .refusal ∷ [])
+shows-status {m = m} {ts = ts} e h =
+    (λ i. (tallied (h i .0) m ts, h i .1)) ∙ (λ i. (tallied (e i .0 .cart) (e i .1) (e i .2), e i .0 .refusal ∷ []))
 
-pub shows-value : (o : Outcome) {reply : Reply} {m out : List ℕ} {r : Cartridge} → _≡_ {A = Reply × List ℕ} (reply, m) (replied o)
+-- with tallies beside a call that is not passed them
+pub beside : {reply q : Reply} {m n : List ℕ} (ts : List ℕ) → _≡_ {A = Reply × List ℕ} (reply, m) (q, n)
+    → _≡_ {A = Reply × List ℕ × List ℕ} (reply, m, ts) (q, n, ts)
+beside ts e = λ i. (e i .0, e i .1, ts)
+
+pub shows-value : (o : Outcome) (ts : List ℕ) {reply : Reply} {m out : List ℕ} {r : Cartridge} → _≡_ {A = Reply × List ℕ} (reply, m) (replied o)
     → _≡_ {A = Cartridge × List ℕ} (r, out) (valueShown reply)
-    → _≡_ {A = State × List ℕ} (state r m, out) (left (valueAnswer o))
-shows-value o {m = m} e h = (λ i. (state (h i .0) m, h i .1)) ∙ (λ i. (state (e i .0 .cart) (e i .1), e i .0 .refusal ∷ e i .0 .value % 256 ∷ []))
+    → _≡_ {A = State × List ℕ} (tallied r m ts, out) (left (valueAnswer (besideTallies ts o)))
+shows-value o ts {m = m} e h =
+    (λ i. (tallied (h i .0) m ts, h i .1)) ∙ (λ i. (tallied (e i .0 .cart) (e i .1) ts, e i .0 .refusal ∷ e i .0 .value % 256 ∷ []))
 
-pub shows-state : (o : Outcome) {a : StateAnswer} {s : State} {out : List ℕ} → _≡_ {A = StateAnswer × State} (a, s) (stateAnswered o)
+pub shows-state : (o : Outcome) (ts : List ℕ) {a : StateAnswer} {s : State} {out : List ℕ} → _≡_ {A = StateAnswer × State} (a, s) (stateAnswered o)
     → out ≡ a .refusal ∷ a .bytes
-    → _≡_ {A = State × List ℕ} (s, out) (left (recordAnswer o))
-shows-state o {s = s} e h = (λ i. (s, h i)) ∙ (λ i. (e i .1, e i .0 .refusal ∷ e i .0 .bytes))
+    → _≡_ {A = State × List ℕ} (withTallies ts s, out) (left (recordAnswer (besideTallies ts o)))
+shows-state o ts {s = s} e h = (λ i. (withTallies ts s, h i)) ∙ (λ i. (withTallies ts (e i .1), e i .0 .refusal ∷ e i .0 .bytes))
 
 -- an export leaves the state
 pub export-next : (d : List ℕ) (s : State) → step saveData d s .next ≡ s

@@ -15,7 +15,7 @@ use Rattle.call_list.specs.declared.Item.{Item}
 use Rattle.call_list.specs.declared.Item.the-variants.{SaveRead, SaveWrite, EepromRead, EepromWrite, BeginDma}
 use Rattle.call_list.specs.declared.Item.the-variants.{TakeFlag, ChipState, LoadSave, SaveData, Cut, Bad}
 use Rattle.call_list.specs.Items.{Place, items}
-use Rattle.replay.specs.Replay.{fourBytes, replay}
+use Rattle.replay.specs.Replay.{fourBytes, ownTallies, replay}
 
 -- how many cuts are at the front of a list
 abbrev pub cutOr : Item → ℕ → ℕ
@@ -84,7 +84,9 @@ encoded n list r = callsBytes (map (λ t. t .call) list) (r .calls) ++ (fileByte
 -- the output with what a run of the turns from the opened image shows, encoded, of the list
 abbrev pub shownOf : List ℕ → ℕ → List ℕ → List Turn → List Turn → List ℕ → List ℕ
 shownOf image part memory list turned out =
-    into (encoded (length memory) list (run image part memory turned (fromBytes image part memory .next))) out
+    let ts = ownTallies image in
+    let r = run image part memory ts turned (fromBytes image part memory ts .next) in
+    into (encoded (length memory) list r) out
 
 -- what an accepted replay writes is what the list shows without its cuts, and what it shows with them
 pub record ReplayRuns : Type 0 where

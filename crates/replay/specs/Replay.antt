@@ -6,7 +6,7 @@ use lib.Dec.{eqb}
 use lib.ListN.{length, take, drop, replicate}
 use Rattle.lists.specs.Lists.{into}
 use Rattle.lists.specs.Questions.{Question, asked}
-use Rattle.kind.specs.Kind.{usesEeprom, detectSaveType}
+use Rattle.kind.specs.Kind.{tallyCount, usesEeprom, detectSaveType}
 use Rattle.cart.specs.declared.Cartridge.{Cartridge}
 use Rattle.cart.specs.declared.Reply.{Reply}
 use Rattle.cart.specs.Record.{State, Outcome, openQuestions, fromBytes}
@@ -91,9 +91,9 @@ ending s = fileAnswer (exportInto (length (s .memory)) s) .bytes ++ recordAnswer
 abbrev pub notCut : State → State
 notCut s = s
 
--- and one that is cut; the opening is passed the memory as it is
+-- and one that is cut; the opening is passed memory and tallies as they are
 abbrev pub cutAt : List ℕ → ℕ → State → State
-cutAt image part s = cut image part (s .memory) s
+cutAt image part s = cut image part (s .memory) (s .tallies) s
 
 -- the memory that a run leaves, and the output with its answers at the front
 abbrev pub shownBy : Answered → List ℕ → List ℕ × List ℕ
@@ -104,10 +104,14 @@ uncutRun list s =
     let r = playAll notCut list s in
     answered (r .bytes ++ ending (r .next)) (r .next)
 
--- 1, 3 and 15 as at opening, and then what is asked of the list
+-- a replay has tallies of its own, as many as the image's kind has
+abbrev pub ownTallies : List ℕ → List ℕ
+ownTallies image = replicate (tallyCount (detectSaveType image)) 0
+
+-- 1, 3 and 15 as at opening (16 is answered yes), and then what is asked of the list
 abbrev pub replayQuestions : List ℕ → ℕ → List ℕ → List ℕ → ℕ → ℕ → List Question
 replayQuestions image part bytes memory scratch out =
-    openQuestions image part memory
+    openQuestions image part memory (ownTallies image)
     ++ listQuestions (items 0 bytes) (usesEeprom (detectSaveType image)) (length memory) scratch out
 
 -- the refusal or 0, the memory, the scratch, which is left all 0, and the output; a refused replay leaves all as it was
@@ -115,5 +119,5 @@ unfoldable pub replay : List ℕ → ℕ → List ℕ → List ℕ → List ℕ 
     → ℕ × List ℕ × List ℕ × List ℕ
 replay image part bytes memory scratch out =
     let n = asked (replayQuestions image part bytes memory (length scratch) (length out)) in
-    let r = uncutRun (items 0 bytes) (fromBytes image part memory .next) in
+    let r = uncutRun (items 0 bytes) (fromBytes image part memory (ownTallies image) .next) in
     cond (eqb n 0) (0, r .next .memory, replicate (length scratch) 0, into (r .bytes) out) (n, memory, scratch, out)

@@ -12,7 +12,7 @@ ghost use Prim.Native.Nat.{_≤_};
 ghost use lib.ListN.{length};
 ghost use Rattle.kind.specs.Kind.{memorySize};
 ghost use Rattle.cart.specs.Record.{recordAllowed};
-ghost use Rattle.cart.specs.Replies.{state};
+ghost use Rattle.cart.specs.Replies.{tallied};
 ghost use Rattle.call_list.specs.Items.{itemLength, itemRoom};
 ghost use Rattle.replay.specs.Replay.{statusShown, valueShown, play as play·spec, left, cutAt};
 
@@ -40,6 +40,7 @@ pub fn play(
     part: u32,
     cart: Cartridge,
     memory: &mut [u8],
+    tallies: &mut [u16],
     scratch: &mut [u8],
     out: &mut [u8],
 ) -> Cartridge
@@ -48,19 +49,19 @@ pub fn play(
     requires { ⌜ recordAllowed cart ≡ true ⌝ }
     requires { ⌜ length (now memory) ≡ memorySize (cart .kind) ⌝ }
     requires { ⌜ length (now memory) ≤ length (now scratch) ⌝ }
-    ensures { λ r. ⌜ (state r (now (memory .exit)), now (out .exit))
+    ensures { λ r. ⌜ (tallied r (now (memory .exit)) (now (tallies .exit)), now (out .exit))
         ≡ left (play·spec (cutAt (now (image .entry)) part) item (now (list .entry))
-        (state cart (now (memory .entry)))) ⌝ }
+        (tallied cart (now (memory .entry)) (now (tallies .entry)))) ⌝ }
 {
     match item {
         Item::SaveRead(address) => show_value(byte_calls::save_read(cart, memory, address), out),
         Item::SaveWrite(address, value) => show_status(
-            byte_calls::save_write(cart, memory, address, value),
+            byte_calls::save_write(cart, memory, tallies, address, value),
             out,
         ),
         Item::EepromRead => show_value(serial_calls::eeprom_read(cart, memory), out),
         Item::EepromWrite(value) => show_status(
-            serial_calls::eeprom_write(cart, memory, value),
+            serial_calls::eeprom_write(cart, memory, tallies, value),
             out,
         ),
         Item::BeginDma(words) => show_status(
@@ -74,13 +75,16 @@ pub fn play(
         }
         Item::LoadSave(n) => {
             let end = 5 + n;
-            show_status(file_calls::load_save(cart, memory, &list[5..end]), out)
+            show_status(
+                file_calls::load_save(cart, memory, tallies, &list[5..end]),
+                out,
+            )
         }
         Item::SaveData(_) => {
             put_file(cart, memory, out);
             cart
         }
-        Item::Cut => cut_call::cut(image, part, cart, memory, scratch),
+        Item::Cut => cut_call::cut(image, part, cart, memory, tallies, scratch),
         Item::Bad => cart,
     }
 }

@@ -11,7 +11,7 @@ ghost use Rattle.lists.specs.Questions.{asked};
 ghost use Rattle.kind.specs.Kind.{usesEeprom, detectSaveType};
 ghost use Rattle.part.specs.Part.{partOf};
 ghost use Rattle.cart.specs.Record.{openQuestions, fresh as fresh·spec};
-ghost use Rattle.cart.specs.Replies.{state};
+ghost use Rattle.cart.specs.Replies.{state, tallied};
 ghost use Rattle.call_list.specs.Items.{endingRoom, items, byteWrites, room};
 ghost use Rattle.replay.specs.Replay.{ending, uncutRun, shownBy};
 
@@ -31,11 +31,12 @@ pub fn run(
     list: &[u8],
     fresh: Cartridge,
     memory: &mut [u8],
+    tallies: &mut [u16],
     scratch: &mut [u8],
     out: &mut [u8],
 )
-    requires { ⌜ asked (openQuestions (now image) part (now memory)) ≡ 0 ⌝ }
-    requires { ⌜ state fresh (now memory) ≡ fresh·spec (now image) (partOf part) ⌝ }
+    requires { ⌜ asked (openQuestions (now image) part (now memory) (now tallies)) ≡ 0 ⌝ }
+    requires { ⌜ tallied fresh (now memory) (now tallies) ≡ fresh·spec (now image) (partOf part) ⌝ }
     requires { ⌜ (byteWrites (items 0 (now list)) && usesEeprom (detectSaveType (now image))) ≡ false ⌝ }
     requires { ⌜ length (now memory) ≤ length (now scratch) ⌝ }
     requires { ⌜ room (items 0 (now list)) + endingRoom (length (now memory)) ≤ length (now out) ⌝ }
@@ -56,6 +57,7 @@ pub fn run(
             part,
             cart,
             memory,
+            tallies,
             scratch,
             &mut out[at..end],
         );

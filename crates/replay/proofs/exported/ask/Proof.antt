@@ -10,6 +10,7 @@ use Rattle.part.specs.Part.{numberFits}
 use Rattle.call_list.specs.Items.{items}
 use Rattle.call_list.specs.ListQuestions.{listQuestions}
 use Rattle.kind.proofs.Sizes.{memory-small}
+use Rattle.replay.proofs.Whole.{own-many}
 use borrow.Author.Needs.{needs}
 use Rattle.replay.proofs.exported.ask.Statement.{statement}
 use Rattle.replay.proofs.exported.ask.Tie as tie
@@ -26,7 +27,7 @@ returns-3 c =
     let k = c .before .before .before .before .detect-save-type .ensures in
     let n = c .before .before .before .memory-size .ensures ∙ ap memorySize k in
     let f = denied _ (c .before .number-fits .ensures ∙ ap (numberFits (c .before .before .before .before .before .before .before .before .before .before .args .part)) k) (c .if3 .taken) in
-    rw (granted _ (c .before .before .before .before .before .before .image-length .ensures) (c .before .before .before .before .before .if1 .left), ← n, eq-eqb _ _ (c .before .before .if2 .left), f)
+    rw (granted _ (c .before .before .before .before .before .before .image-length .ensures) (c .before .before .before .before .before .if1 .left), ← n, eq-eqb _ _ (c .before .before .if2 .left), own-many (c .before .before .before .before .before .before .before .before .before .before .args .image .now), f)
 
 ask-list-requires : tie.Need-ask-list-requires
 ask-list-requires c κs = omega (arith, c .before .before .before .if2 .left, c .before .before .before .before .memory-size .ensures, memory-small (c .before .before .before .before .before .detect-save-type .result))
@@ -37,7 +38,7 @@ returns-4 c =
     let k = c .before .before .before .before .before .before .detect-save-type .ensures in
     let n = c .before .before .before .before .before .memory-size .ensures ∙ ap memorySize k in
     let f = granted _ (c .before .before .before .number-fits .ensures ∙ ap (numberFits (a .part)) k) (c .before .before .if3 .left) in
-    rw (granted _ (c .before .before .before .before .before .before .before .before .image-length .ensures) (c .before .before .before .before .before .before .before .if1 .left), ← n, eq-eqb _ _ (c .before .before .before .before .if2 .left), f)
+    rw (granted _ (c .before .before .before .before .before .before .before .before .image-length .ensures) (c .before .before .before .before .before .before .before .if1 .left), ← n, eq-eqb _ _ (c .before .before .before .before .if2 .left), own-many (c .before .before .before .before .before .before .before .before .before .before .before .before .args .image .now), f)
     (c .ask-list .ensures ∙ ap (λ (b : Bool). asked (listQuestions (items 0 (a .list .now)) b (length (a .memory .now)) (a .scratch) (a .out))) (c .before .uses-eeprom .ensures ∙ ap usesEeprom k))
 
 pub ask-spec : {M : Type 1} → statement M
