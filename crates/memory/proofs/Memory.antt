@@ -1,24 +1,19 @@
 -- Lengths and ends of the memory behind each store. Assumes nothing.
 use mathlib.Core.Path.{_≡_, refl, sym, ap, subst, _∙_}
 use mathlib.Core.List.{List, [], _∷_, _++_, append-nil}
-use Prim.Native.Nat.{ℕ, zero, suc, _+_, _*_, _-_, _/_, _%_, _^_, _≤_}
-use native.Mathlib.Nat.{sub-zero, zero-sub, suc-sub-suc, div-one}
+use Prim.Native.Nat.{ℕ, _+_, _*_, _-_, _/_, _%_, _^_, _≤_}
+use native.Mathlib.Nat.{div-one}
 use native.Mathlib.Omega.{arith}
 use lib.ListN.{length, take, drop, replicate, length-append, length-take, length-replicate, length-drop, take-append-drop}
 use lib.Seq.{take-all, drop-append-add, length-take-le}
 use Rattle.lists.specs.Lists.{digits, withPart}
-use Rattle.lists.proofs.Parts.{length-part, drop-part}
+use Rattle.lists.proofs.Parts.{length-part, drop-part, drop-replicate}
 use Rattle.memory.specs.declared.Store.{Store}
 use Rattle.memory.specs.Memory.{erased, stored, withCount, Fits, filled}
 
 pub length-erased : (n : ℕ) → length (erased n) ≡ n
 unfolding erased
 length-erased n = length-replicate n 255
-
-drop-replicate : (i n x : ℕ) → drop i (replicate n x) ≡ replicate (n - i) x
-drop-replicate zero n x = ap (λ (k : ℕ). replicate k x) (sym (sub-zero n))
-drop-replicate (suc i) zero x = ap (λ (k : ℕ). replicate k x) (sym (zero-sub (suc i)))
-drop-replicate (suc i) (suc n) x = drop-replicate i n x ∙ ap (λ (k : ℕ). replicate k x) (sym (suc-sub-suc n i))
 
 pub drop-erased : (i n : ℕ) → drop i (erased n) ≡ erased (n - i)
 unfolding erased

@@ -1,10 +1,12 @@
--- The save memory: erased bytes, what each store leaves, and how many places it changes.
-use mathlib.Core.Bool.{Bool, true, false, cond, _||_}
-use mathlib.Core.List.{List, [], _∷_, _++_}
+-- The save memory: erased bytes, what each store leaves, how many places it changes, and the tallies after it.
+use mathlib.Core.Path.{_≡_}
+use mathlib.Core.Bool.{Bool, true, false, _||_}
+use mathlib.Core.List.{List, [], _++_}
 use Prim.Native.Nat.{ℕ, _+_, _*_, _-_, _/_, _≤_, _<_}
-use lib.Dec.{eqb}
 use lib.ListN.{length, take, set, replicate}
 use Rattle.lists.specs.Lists.{digits, withPart}
+use Rattle.counts.specs.Counts.{differing}
+use Rattle.counts.specs.Tallies.{retallied}
 use Rattle.memory.specs.declared.Store.{Store}
 use Rattle.memory.specs.declared.Store.the-variants.{Nothing, Byte, Block, Sector, Chip, File}
 
@@ -26,18 +28,13 @@ stored (Sector a) file m = withPart m (a / 4096 * 4096) (erased 4096)
 stored Chip file m = erased (length m)
 stored File file m = filled (length m) file
 
--- 02, ticket 2: "the number of memory places whose value differs from before"
-abbrev pub differs : ℕ → ℕ → ℕ
-differs x y = cond (eqb x y) 0 1
+-- a store's answer (02, ticket 2), what it leaves, and the tallies after it (02, ticket 4)
+abbrev pub withCount : List ℕ → List ℕ → List ℕ → ℕ × List ℕ × List ℕ
+withCount before after tallies = (differing before after, after, retallied before after tallies)
 
-unfoldable pub differing : List ℕ → List ℕ → ℕ
-differing [] after = 0
-differing (x ∷ before) [] = 0
-differing (x ∷ before) (y ∷ after) = differs x y + differing before after
-
--- a store's answer, and what it leaves
-abbrev pub withCount : List ℕ → List ℕ → ℕ × List ℕ
-withCount before after = (differing before after, after)
+-- there is a tally for each 4,096 bytes of a memory of n bytes
+abbrev pub Tallied : ℕ → List ℕ → Type 0
+Tallied n tallies = n ≡ 4096 * length tallies
 
 -- what is stored lies within a memory of n bytes
 abbrev pub Fits : Store → ℕ → Type 0

@@ -1,10 +1,8 @@
 // Bytes copied into a memory, and out of one into a file.
-use crate::count::differing;
 ghost use mathlib.Core.Path.{_≡_};
 ghost use Prim.Native.Nat.{_≤_};
 ghost use lib.ListN.{length};
 ghost use Rattle.lists.specs.Lists.{into};
-ghost use Rattle.memory.specs.Memory.{withCount};
 
 // Room for the longest file.
 fn room() -> [u8; 131072]
@@ -23,14 +21,4 @@ pub fn copy_file(s: &mut [u8], output: &[u8])
     let mut held = room();
     lists::copy(&mut held[..], output);
     lists::copy(s, &held[..n]);
-}
-
-// Replaces a part by new bytes and answers how many of its places changed.
-pub fn replace(part: &mut [u8], bytes: &[u8]) -> u32
-    requires { ⌜ (length (now part) ≤ 131072) × (length (now part) ≡ length (now bytes)) ⌝ }
-    ensures { λ r. ⌜ (r, now (part .exit)) ≡ withCount (now (part .entry)) (now (bytes .entry)) ⌝ }
-{
-    let n = differing(part, bytes);
-    copy_file(part, bytes);
-    n
 }
