@@ -1,3 +1,4 @@
 pub mod Memory
-pub mod Loads
 pub mod Counts
+pub mod Replaced
+pub mod Loads

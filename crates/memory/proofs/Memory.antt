@@ -2,10 +2,10 @@
 use mathlib.Core.Path.{_≡_, refl, sym, ap, subst, _∙_}
 use mathlib.Core.List.{List, [], _∷_, _++_, append-nil}
 use Prim.Native.Nat.{ℕ, _+_, _*_, _-_, _/_, _%_, _^_, _≤_}
-use native.Mathlib.Nat.{div-one}
+use native.Mathlib.Nat.{sub-zero, div-one}
 use native.Mathlib.Omega.{arith}
-use lib.ListN.{length, take, drop, replicate, length-append, length-take, length-replicate, length-drop, take-append-drop}
-use lib.Seq.{take-all, drop-append-add, length-take-le}
+use lib.ListN.{length, take, drop, length-append, length-take, length-replicate, length-drop, take-append-drop}
+use lib.Seq.{take-all, take-nil, drop-append-add, length-take-le}
 use Rattle.lists.specs.Lists.{digits, withPart}
 use Rattle.lists.proofs.Parts.{length-part, drop-part, drop-replicate}
 use Rattle.memory.specs.declared.Store.{Store}
@@ -55,6 +55,11 @@ filled-front n k m e h d =
     let q : length (take k m) ≤ n = omega arith in
     rw (take-all n (take k m) q, l, ← d, take-append-drop)
 
+-- an empty file erases all
+pub filled-none : (n : ℕ) → filled n [] ≡ erased n
+unfolding filled
+filled-none n = rw (take-nil n, sub-zero n)
+
 -- what a short file leaves erased
 pub drop-filled : (n k : ℕ) (f : List ℕ) → k ≤ n → length f ≤ k → drop k (filled n f) ≡ erased (n - k)
 unfolding filled
@@ -85,5 +90,6 @@ length-mid m a k h = simp (length-take, length-drop) (omega arith)
 pub fits-case : (store known : Store) (n : ℕ) → store ≡ known → Fits store n → Fits known n
 fits-case store known n e f = subst (λ (s : Store). Fits s n) e f
 
-pub stored-case : (store known : Store) (f m : List ℕ) {p : ℕ × List ℕ} → store ≡ known → p ≡ withCount m (stored known f m) → p ≡ withCount m (stored store f m)
-stored-case store known f m e q = q ∙ ap (λ (s : Store). withCount m (stored s f m)) (sym e)
+pub stored-case : (store known : Store) (f m ts : List ℕ) {p : ℕ × List ℕ × List ℕ} → store ≡ known
+    → p ≡ withCount m (stored known f m) ts → p ≡ withCount m (stored store f m) ts
+stored-case store known f m ts e q = q ∙ ap (λ (s : Store). withCount m (stored s f m) ts) (sym e)

@@ -59,7 +59,12 @@ pub fn apply(store: Store, file: &[u8], memory: &mut [u8], tallies: &mut [u16]) 
     match store {
         Store::Nothing => 0,
         Store::Byte(place, value) => leaves::put_byte(memory, place, value, tallies),
-        Store::Block(block, word) => apply_any(Store::Block(block, word), &file[..], memory, tallies),
+        Store::Block(block, word) => apply_any(
+            Store::Block(block, word),
+            &file[..],
+            memory,
+            tallies,
+        ),
         Store::Sector(_) | Store::Chip | Store::File => {
             let part = store;
             apply_any(part, &file[..], memory, tallies)

@@ -3,10 +3,9 @@ use crate::files::copy_file;
 ghost use mathlib.Core.Path.{_≡_};
 ghost use Prim.Native.Nat.{_≤_};
 ghost use lib.ListN.{length};
-ghost use Rattle.counts.specs.Counts.{differing, used};
-ghost use Rattle.counts.specs.Tallies.{retally};
+ghost use Rattle.counts.specs.Counts.{used};
 ghost use Rattle.memory.specs.Memory.{erased, filled};
-ghost use Rattle.memory.specs.Replaced.{Replaced};
+ghost use Rattle.memory.specs.Replaced.{noted, Replaced};
 
 // How many places changed, and the bytes in use before and after. (Of bytes that stay they are both 0.)
 pub struct Change {
@@ -75,7 +74,8 @@ pub fn replace(part: &mut [u8], bytes: &[u8]) -> Change
 // FFh everywhere. Answers how many places changed: those that were in use.
 pub fn erase(part: &mut [u8]) -> u32
     requires { ⌜ length (now part) ≤ 4096 ⌝ }
-    ensures { λ r. ⌜ (r, now (part .exit)) ≡ (used (now (part .entry)), erased (length (now (part .entry)))) ⌝ }
+    ensures { λ r. ⌜ r ≡ used (now (part .entry)) ⌝ }
+    ensures { λ _. ⌜ now (part .exit) ≡ erased (length (now (part .entry))) ⌝ }
 {
     let n = counts::used(part);
     lists::fill(part, 0xFF);
@@ -85,9 +85,8 @@ pub fn erase(part: &mut [u8]) -> u32
 // New bytes at the front of a part of one stretch, and FFh after them.
 pub fn fill_part(part: &mut [u8], bytes: &[u8], tally: u16) -> Noted
     requires { ⌜ (length (now part) ≤ 4096) × (length (now bytes) ≤ length (now part)) ⌝ }
-    ensures { λ r. ⌜ (let old = now (part .entry) in
-        let new = filled (length old) (now (bytes .entry)) in
-        (r .changed, now (part .exit), r .tally) ≡ (differing old new, new, retally (used old) (used new) tally)) ⌝ }
+    ensures { λ r. ⌜ (r .changed, now (part .exit), r .tally)
+        ≡ noted (now (part .entry)) (filled (length (now (part .entry))) (now (bytes .entry))) tally ⌝ }
 {
     let n = bytes.len();
     let front = replace(&mut part[..n], bytes);

@@ -1,71 +1,83 @@
--- `memory::leaves::load` meets its contract. Assumes nothing.
-use mathlib.Core.Path.{sym, ap, _∙_}
+-- `memory::leaves::load` meets its contract, stretch by stretch. Assumes nothing.
+use mathlib.Core.Path.{_≡_, refl}
+use Prim.Native.Nat.{_*_, _-_, _≤_}
 use native.Mathlib.Omega.{arith}
 use lib.ListN.{length}
-use lib.Seq.{length-take-le}
-use Rattle.memory.specs.Memory.{stored, filled, withCount}
-use Rattle.memory.proofs.Counts.{differing-le}
-use Rattle.memory.proofs.Loads.{filled-long, count-short, load-short}
+use Rattle.counts.proofs.Counts.{differing-le}
+use Rattle.memory.specs.Memory.{stored, filled}
+use Rattle.memory.proofs.Memory.{length-mid}
+use Rattle.memory.proofs.Loads.{Loaded, loaded-none, loaded-on, loaded-all, file-stretch-le}
 use borrow.Author.Needs.{needs}
 use Rattle.memory.proofs.leaves.load.Statement.{statement}
 use Rattle.memory.proofs.leaves.load.Tie as tie
 
-slice-aggregate-replace : tie.Need-slice-aggregate-replace
-slice-aggregate-replace c = sym (length-take-le _ _ (c .before .before .if1 .taken))
+abbrev Inv-loop : tie.InvT-loop
+Inv-loop memory₀ file tallies₀ changed₀ k₀ memory tallies changed k =
+    (k ≤ length tallies₀)
+    × (length memory ≡ length memory₀)
+    × (length tallies ≡ length tallies₀)
+    × Loaded k memory₀ file tallies₀ memory tallies changed
 
-replace-requires : tie.Need-replace-requires
-replace-requires c κs =
-    let s = c .before .before .before .before .before in
-    let l = length-take-le (length (s .args .memory .now)) (s .args .file .now) (c .before .before .if1 .taken) in
-    (s .pre, sym l)
+abbrev μ-loop : tie.MeasureT-loop
+μ-loop memory₀ file tallies₀ changed₀ k₀ memory tallies changed k = length tallies₀ - k
 
-returns : tie.Need-returns
+loop-holds : tie.Need-loop-holds Inv-loop μ-loop
+loop-holds c = (omega arith, refl, refl, loaded-none)
+
+fill-part-requires : tie.Need-fill-part-requires Inv-loop μ-loop
+fill-part-requires c κs =
+    let s = c .before .before .before .before .before .before .before .before .before .before in
+    let b = c .before .before .before .before .before .before .loop in
+    let l = length-mid (b .memory) (b .k * 4096) 4096 (omega arith) in (
+      omega (arith, l),
+      rw (c .before .before .before .least2 .ensures, c .before .before .before .before .least .ensures) (omega (arith, l, file-stretch-le (b .k) (s .args .file .now))),
+    )
+
+add-changed : tie.Need-add-changed Inv-loop μ-loop
+add-changed c =
+    let s = c .before .before .before .before .before .before .before .before .before .before .before .before .before .before in
+    let b = c .before .before .before .before .before .before .before .before .before .before .loop in
+    let p = rw (c .before .before .before .before .before .before .before .least2 .ensures, c .before .before .before .before .before .before .before .before .least .ensures) at (c .before .before .before .fill-part .ensures) in
+    let n = loaded-on (s .pre .0) (omega arith) (b .inv .3) p in
+    omega (arith, s .pre .1, n .count, differing-le (s .args .memory .now) (filled (length (s .args .memory .now)) (s .args .file .now)))
+
+loop-again : tie.Need-loop-again Inv-loop μ-loop
+loop-again c =
+    let s = c .before .before .before .before .before .before .before .before .before .before .before .before .before .before in
+    let b = c .before .before .before .before .before .before .before .before .before .before .loop in
+    let p = rw (c .before .before .before .before .before .before .before .least2 .ensures, c .before .before .before .before .before .before .before .before .least .ensures) at (c .before .before .before .fill-part .ensures) in
+    (omega arith, search needs, search needs, loaded-on (s .pre .0) (omega arith) (b .inv .3) p)
+
+returns : tie.Need-returns Inv-loop μ-loop
 unfolding stored
-returns c =
-    let a = c .before .before .before .before .before .before .before .before .args in
-    let m = a .memory .now in
-    c .before .before .replace .ensures ∙ ap (withCount m) (filled-long (length m) (a .file .now) (c .before .before .before .before .before .if1 .taken))
-
-slice-aggregate-replace-2 : tie.Need-slice-aggregate-replace-2
-slice-aggregate-replace-2 c =
-    let a = c .before .before .before .before .args in
-    sym (length-take-le (length (a .file .now)) (a .memory .now) (omega arith))
-
-replace-requires-2 : tie.Need-replace-requires-2
-replace-requires-2 c κs =
-    let s = c .before .before .before .before in
-    let l = length-take-le (length (s .args .file .now)) (s .args .memory .now) (omega arith) in
-    (omega (arith, l), l)
-
-add-result : tie.Need-add-result
-add-result c =
-    let s = c .before .before .before .before .before .before .before .before .before .before .before in
-    let m = s .args .memory .now in
-    let f = s .args .file .now in
-    let n = count-short m f (omega arith) (c .before .before .before .before .before .before .replace2 .ensures) (c .before .before .erase .ensures) in
-    omega (arith, n, differing-le m (filled (length m) f), s .pre)
-
-returns-2 : tie.Need-returns-2
-unfolding stored
-returns-2 c =
-    let a = c .before .before .before .before .before .before .before .before .before .before .before .args in
-    load-short (a .memory .now) (a .file .now) (omega arith) (c .before .before .before .before .before .before .replace2 .ensures) (c .before .before .erase .ensures)
+returns c = let s = c .before .before .before .before .before in let b = c .before .loop in loaded-all (s .pre .0) (omega arith) (b .inv .3)
 
 pub load-spec : {M : Type 1} → statement M
 load-spec =
     tie.close
     (tie.spec
-    slice-aggregate-replace
-    replace-requires
-    (λ c. search needs)
-    returns
-    (λ c. search needs)
-    slice-aggregate-replace-2
-    replace-requires-2
-    (λ c. search needs)
+    Inv-loop
+    μ-loop
+    loop-holds
     (λ c. search needs)
     (λ c. search needs)
     (λ c κs. search needs)
-    add-result
+    (λ c κs. search needs)
     (λ c. search needs)
-    returns-2)
+    (λ c. search needs)
+    (λ c. search needs)
+    (λ c. search needs)
+    (λ c. search needs)
+    (λ c. search needs)
+    (λ c. search needs)
+    (λ c. search needs)
+    fill-part-requires
+    (λ c. search needs)
+    (λ c. search needs)
+    add-changed
+    (λ c. search needs)
+    (λ c. search needs)
+    loop-again
+    (λ c. search needs)
+    (λ c. search needs)
+    returns)

@@ -1,33 +1,48 @@
 -- `memory::leaves::put_block` meets its contract. Assumes nothing.
-use mathlib.Core.Path.{ap, _∙_}
-use Prim.Native.Nat.{_+_, _*_, _-_}
+use mathlib.Core.Path.{ap, subst, _∙_}
+use mathlib.Core.List.{List}
+use Prim.Native.Nat.{ℕ, _+_, _*_, _-_, _/_}
 use native.Mathlib.Omega.{arith}
-use lib.ListN.{length, take, drop}
+use lib.ListN.{length, getD, take, drop}
 use Rattle.lists.specs.Lists.{digits}
-use Rattle.memory.specs.Memory.{stored, withCount}
+use Rattle.memory.specs.Memory.{stored}
+use Rattle.memory.specs.Replaced.{Replaced}
 use Rattle.memory.proofs.Memory.{length-word, length-mid}
 use Rattle.memory.proofs.Counts.{part-counted}
+use Rattle.memory.proofs.Replaced.{replaced-noted}
 use borrow.Author.Needs.{needs}
 use Rattle.memory.proofs.leaves.put_block.Statement.{statement}
 use Rattle.memory.proofs.leaves.put_block.Tie as tie
 
-replace-requires : tie.Need-replace-requires
-replace-requires c κs =
-    let s = c .before .before .before .before in
-    let l = length-mid (s .args .memory .now) (8 * s .args .block) 8 (s .pre) in
+replace-short-requires : tie.Need-replace-short-requires
+replace-short-requires c κs =
+    let s = c .before .before .before .before .before in
+    let l = length-mid (s .args .memory .now) (8 * s .args .block) 8 (s .pre .1) in
     let w = ap length (c .before .before .word-bytes .ensures) ∙ length-word (s .args .word) in
     (omega (arith, l), omega (arith, l, w))
+
+retally-requires : tie.Need-retally-requires
+retally-requires c κs =
+    let s = c .before .before .before .before .before .before .before .before .before in
+    let l = length-mid (s .args .memory .now) (8 * s .args .block) 8 (s .pre .1) in
+    let r = c .before .before .before .replace-short .ensures .1 in
+    (omega (arith, l, r .most-before), omega (arith, l, r .most-after))
 
 returns : tie.Need-returns
 unfolding stored
 returns c =
-    let s = c .before .before .before .before .before .before .before in
+    let s = c .before .before .before .before .before .before .before .before .before .before in
     let w = s .args .word in
     let m = s .args .memory .now in
-    let a = 8 * s .args .block in
-    part-counted m a (a + 8) (digits 256 8 w) (omega (arith, length-word w)) (s .pre)
-    (c .before .before .replace .ensures
-    ∙ ap (withCount (take (a + 8 - a) (drop a m))) (c .before .before .before .before .before .word-bytes .ensures))
+    let ts = s .args .tallies .now in
+    let b = s .args .block in
+    let a = 8 * b in
+    let l = length-mid m a 8 (s .pre .1) in
+    let d = c .before .before .before .before .before .before .before .word-bytes .ensures in
+    let p = c .before .before .before .before .replace-short in
+    part-counted m ts a (a + 8) (b / 512) (digits 256 8 w) (omega (arith, length-word w)) (s .pre .1) (omega arith) (omega (arith, length-word w))
+    (λ i. omega (arith, c .before .before .before .before .before .before .before .before .slice-known2 .given i))
+    (replaced-noted (take (a + 8 - a) (drop a m)) (digits 256 8 w) (p .result) (getD ts (b / 512) 0) (subst (λ (l : List ℕ). Replaced (take (a + 8 - a) (drop a m)) l (p .result)) d (p .ensures .1)) (omega (arith, l)) (p .ensures .0 ∙ d) (c .retally .ensures))
 
 pub put-block-spec : {M : Type 1} → statement M
 put-block-spec =
@@ -40,6 +55,12 @@ put-block-spec =
     (λ c. search needs)
     (λ c. search needs)
     (λ c. search needs)
-    replace-requires
+    replace-short-requires
+    (λ c. search needs)
+    (λ c. search needs)
+    retally-requires
+    (λ c. search needs)
+    (λ c. search needs)
+    (λ c. search needs)
     (λ c. search needs)
     returns)
