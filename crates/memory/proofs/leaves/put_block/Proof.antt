@@ -37,9 +37,9 @@ returns c =
     let a = 8 * b in
     let d = c .before .before .before .before .before .before .before .word-bytes .ensures in
     let r = rw d at (c .before .before .before .before .replace-short .ensures) in
+    let n = replaced-noted (getD ts (b / 512) 0) (omega (arith, length-mid m a 8 (s .pre .1))) (r .0) (r .1) (c .retally .ensures) in
     part-counted m ts a (a + 8) (b / 512) (digits 256 8 w) (omega (arith, length-word w)) (s .pre .1) (omega arith) (omega (arith, length-word w))
-    (λ i. omega (arith, c .before .before .before .before .before .before .before .before .slice-known2 .given i))
-    (replaced-noted (getD ts (b / 512) 0) (omega (arith, length-mid m a 8 (s .pre .1))) (r .0) (r .1) (c .retally .ensures))
+    (λ i. omega (arith, c .before .before .before .before .before .before .before .before .slice-known2 .given i)) n
 
 pub put-block-spec : {M : Type 1} → statement M
 put-block-spec =
