@@ -35,7 +35,8 @@ pub none-counted : (m ts : List ℕ) → Words ts → (0, m, ts) ≡ withCount m
 none-counted m ts w = with-count (sym (differing-same m)) refl (sym (retallied-same m ts w))
 
 -- the answer of a leaf that is passed the part from place a to place e, within stretch k, is the memory's
-pub part-counted : (m ts : List ℕ) (a e k : ℕ) (zs : List ℕ) → e ≡ a + length zs → e ≤ length m → k ≡ a / 4096 → a % 4096 + length zs ≤ 4096 → Words ts
+pub part-counted : (m ts : List ℕ) (a e k : ℕ) (zs : List ℕ) → e ≡ a + length zs → e ≤ length m
+    → k ≡ a / 4096 → a % 4096 + length zs ≤ 4096 → Words ts
     → {n t : ℕ} {ys : List ℕ} → (n, ys, t) ≡ noted (take (e - a) (drop a m)) zs (getD ts k 0)
     → (n, take a m ++ (ys ++ drop (e - a) (drop a m)), set ts k t) ≡ withCount m (withPart m a zs) ts
 part-counted m ts a e k zs h l i g w p =

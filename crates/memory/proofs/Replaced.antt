@@ -23,9 +23,9 @@ into-whole f m e =
     rw (drop-of-length-le m h, append-nil f)
 
 -- what is counted of a part says how its stretch's tally changes
-pub replaced-noted : (old new : List ℕ) (c : Change) (tally : ℕ) → Replaced old new c → length old ≤ 4096 → {ys : List ℕ} {t : ℕ} → ys ≡ new
+pub replaced-noted : (tally : ℕ) {old new ys : List ℕ} {c : Change} {t : ℕ} → length old ≤ 4096 → ys ≡ new → Replaced old new c
     → t ≡ retally (c .before) (c .after) tally → (c .changed, ys, t) ≡ noted old new tally
-replaced-noted old new c tally r h p q =
+replaced-noted tally {old} {new} {ys} {c} h p r q =
     let s : retally (c .before) (c .after) tally ≡ retally (used old) (used new) tally =
     retally-by (c .before) (c .after) (used old) (used new) tally (omega (arith, r .most-before)) (omega (arith, used-le old)) (r .balance)
     in
@@ -127,22 +127,28 @@ held m f ys = ys ++ drop (length f) m
 abbrev behind : List ℕ → List ℕ → List ℕ → List ℕ
 behind m f ys = take (length (held m f ys) - length f) (drop (length f) (held m f ys))
 
+-- the part that it leaves, with zs where that was
+abbrev left : List ℕ → List ℕ → List ℕ → List ℕ → List ℕ
+left m f ys zs = take (length f) (held m f ys) ++ (zs ++ drop (length (held m f ys) - length f) (drop (length f) (held m f ys)))
+
 behind-is : (m f : List ℕ) {ys : List ℕ} → ys ≡ f → behind m f ys ≡ drop (length f) m
 behind-is m f {ys} p = rest (length f) (held m f ys) ∙ drop-at ys (drop (length f) m) (length f) (ap length p)
 
 -- the front replaced and the rest erased: the part is filled, and both counts together are its own
-module _ (m f : List ℕ) (fits : length f ≤ length m) {c : Change} {u : ℕ} {ys zs : List ℕ} (front : ys ≡ f) (replaced : Replaced (take (length f) m) f c)
-    (erases : u ≡ used (behind m f ys)) (left : zs ≡ erased (length (behind m f ys))) where
+module _ (m f : List ℕ) (fits : length f ≤ length m) {c : Change} {u : ℕ} {ys zs : List ℕ}
+    (front : ys ≡ f) (replaced : Replaced (take (length f) m) f c)
+    (counted : u ≡ used (behind m f ys)) (erases : zs ≡ erased (length (behind m f ys))) where
   rest-used : u ≡ used (drop (length f) m)
-  rest-used = erases ∙ ap used (behind-is m f front)
+  rest-used = counted ∙ ap used (behind-is m f front)
 
   pub filled-changed : c .changed + u ≡ differing m (filled (length m) f)
   filled-changed = omega (arith, replaced .count, rest-used, differing-filled m f fits)
 
-  filled-is : take (length f) (held m f ys) ++ (zs ++ drop (length (held m f ys) - length f) (drop (length f) (held m f ys))) ≡ filled (length m) f
+  filled-is : left m f ys zs ≡ filled (length m) f
   unfolding filled
   filled-is =
-      rw (take-at ys (drop (length f) m) (length f) (ap length front), past-rest (length f) (held m f ys), append-nil zs, left, behind-is m f front, length-drop (length f) m, front, take-all (length m) f fits)
+      rw (take-at ys (drop (length f) m) (length f) (ap length front), past-rest (length f) (held m f ys), append-nil zs)
+      (rw (erases, behind-is m f front, length-drop (length f) m, front, take-all (length m) f fits))
 
   -- and the tally's change is that of the bytes in use
   pub before-le : c .before + u ≤ length m
@@ -152,7 +158,7 @@ module _ (m f : List ℕ) (fits : length f ≤ length m) {c : Change} {u : ℕ} 
   after-le = omega (arith, replaced .most-after, length-take-le (length f) m fits)
 
   pub filled-noted : (tally : ℕ) → length m ≤ 4096 → {t : ℕ} → t ≡ retally (c .before + u) (c .after) tally
-      → (c .changed + u, take (length f) (held m f ys) ++ (zs ++ drop (length (held m f ys) - length f) (drop (length f) (held m f ys))), t) ≡ noted m (filled (length m) f) tally
+      → (c .changed + u, left m f ys zs, t) ≡ noted m (filled (length m) f) tally
   filled-noted tally h p =
       let s : used m ≡ used (take (length f) m) + used (drop (length f) m) =
       ap used (sym (take-append-drop (length f) m)) ∙ used-append (take (length f) m) (drop (length f) m)

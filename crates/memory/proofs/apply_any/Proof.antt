@@ -80,7 +80,8 @@ returns-6 : tie.Need-returns-6
 unfolding stored
 returns-6 c =
     let a = c .before .before .before .before .before .before .before .before .before .before .before .before .args in
-    stored-case (a .store) File (a .file .now) (a .memory .now) (a .tallies .now) (c .before .before .before .before .before .before .before .enum-told3 .given .1) (c .before .before .before .before .load2 .ensures)
+    let g = c .before .before .before .before .before .before .before .enum-told3 .given in
+    stored-case (a .store) File (a .file .now) (a .memory .now) (a .tallies .now) (g .1) (c .before .before .before .before .load2 .ensures)
 
 pub apply-any-spec : {M : Type 1} → statement M
 apply-any-spec =

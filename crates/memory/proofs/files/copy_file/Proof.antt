@@ -11,14 +11,20 @@ use Rattle.memory.proofs.files.copy_file.Statement.{statement}
 use Rattle.memory.proofs.files.copy_file.Tie as tie
 
 slice-aggregate-copy-2 : tie.Need-slice-aggregate-copy-2
-slice-aggregate-copy-2 c = let a = c .before .before .before .before .before .before .before .before .args in sym (ap length (into-front (a .output .now) _ (c .before .before .before .copy .ensures)))
+slice-aggregate-copy-2 c =
+    let a = c .before .before .before .before .before .before .before .before .args in
+    sym (ap length (into-front (a .output .now) _ (c .before .before .before .copy .ensures)))
 
 copy-requires-2 : tie.Need-copy-requires-2
-copy-requires-2 c κs = let a = c .before .before .before .before .before .before .before .before .args in omega (arith, ap length (into-front (a .output .now) _ (c .before .before .before .copy .ensures)), c .before .before .before .before .before .before .before .before .pre .0)
+copy-requires-2 c κs =
+    let s = c .before .before .before .before .before .before .before .before in
+    omega (arith, ap length (into-front (s .args .output .now) _ (c .before .before .before .copy .ensures)), s .pre .0)
 
 returns : tie.Need-returns
-returns c = let a = c .before .before .before .before .before .before .before .before .before .before .before .args in
-    c .before .before .copy2 .ensures ∙ ap (λ (xs : List ℕ). into xs (a .s .now)) (into-front (a .output .now) _ (c .before .before .before .before .before .before .copy .ensures))
+returns c =
+    let a = c .before .before .before .before .before .before .before .before .before .before .before .args in
+    c .before .before .copy2 .ensures
+    ∙ ap (λ (xs : List ℕ). into xs (a .s .now)) (into-front (a .output .now) _ (c .before .before .before .before .before .before .copy .ensures))
 
 pub copy-file-spec : {M : Type 1} → statement M
 copy-file-spec =

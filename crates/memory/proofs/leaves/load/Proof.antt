@@ -28,16 +28,18 @@ fill-part-requires : tie.Need-fill-part-requires Inv-loop μ-loop
 fill-part-requires c κs =
     let s = c .before .before .before .before .before .before .before .before .before .before in
     let b = c .before .before .before .before .before .before .loop in
-    let l = length-mid (b .memory) (b .k * 4096) 4096 (omega arith) in (
-      omega (arith, l),
-      rw (c .before .before .before .least2 .ensures, c .before .before .before .before .least .ensures) (omega (arith, l, file-stretch-le (b .k) (s .args .file .now))),
-    )
+    let to = c .before .before .before .least2 .ensures in
+    let from = c .before .before .before .before .least .ensures in
+    let l = length-mid (b .memory) (b .k * 4096) 4096 (omega arith) in
+    (omega (arith, l), rw (to, from) (omega (arith, l, file-stretch-le (b .k) (s .args .file .now))))
 
 add-changed : tie.Need-add-changed Inv-loop μ-loop
 add-changed c =
     let s = c .before .before .before .before .before .before .before .before .before .before .before .before .before .before in
     let b = c .before .before .before .before .before .before .before .before .before .before .loop in
-    let p = rw (c .before .before .before .before .before .before .before .least2 .ensures, c .before .before .before .before .before .before .before .before .least .ensures) at (c .before .before .before .fill-part .ensures) in
+    let to = c .before .before .before .before .before .before .before .least2 .ensures in
+    let from = c .before .before .before .before .before .before .before .before .least .ensures in
+    let p = rw (to, from) at (c .before .before .before .fill-part .ensures) in
     let n = loaded-on (s .pre .0) (omega arith) (b .inv .3) p in
     omega (arith, s .pre .1, n .count, differing-le (s .args .memory .now) (filled (length (s .args .memory .now)) (s .args .file .now)))
 
@@ -45,12 +47,14 @@ loop-again : tie.Need-loop-again Inv-loop μ-loop
 loop-again c =
     let s = c .before .before .before .before .before .before .before .before .before .before .before .before .before .before in
     let b = c .before .before .before .before .before .before .before .before .before .before .loop in
-    let p = rw (c .before .before .before .before .before .before .before .least2 .ensures, c .before .before .before .before .before .before .before .before .least .ensures) at (c .before .before .before .fill-part .ensures) in
+    let to = c .before .before .before .before .before .before .before .least2 .ensures in
+    let from = c .before .before .before .before .before .before .before .before .least .ensures in
+    let p = rw (to, from) at (c .before .before .before .fill-part .ensures) in
     (omega arith, search needs, search needs, loaded-on (s .pre .0) (omega arith) (b .inv .3) p)
 
 returns : tie.Need-returns Inv-loop μ-loop
 unfolding stored
-returns c = let s = c .before .before .before .before .before in let b = c .before .loop in loaded-all (s .pre .0) (omega arith) (b .inv .3)
+returns c = loaded-all (c .before .before .before .before .before .pre .0) (omega arith) (c .before .loop .inv .3)
 
 pub load-spec : {M : Type 1} → statement M
 load-spec =

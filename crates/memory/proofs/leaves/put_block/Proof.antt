@@ -1,12 +1,10 @@
 -- `memory::leaves::put_block` meets its contract. Assumes nothing.
-use mathlib.Core.Path.{ap, subst, _∙_}
-use mathlib.Core.List.{List}
-use Prim.Native.Nat.{ℕ, _+_, _*_, _-_, _/_}
+use mathlib.Core.Path.{ap, _∙_}
+use Prim.Native.Nat.{_+_, _*_, _/_}
 use native.Mathlib.Omega.{arith}
-use lib.ListN.{length, getD, take, drop}
+use lib.ListN.{length, getD}
 use Rattle.lists.specs.Lists.{digits}
 use Rattle.memory.specs.Memory.{stored}
-use Rattle.memory.specs.Replaced.{Replaced}
 use Rattle.memory.proofs.Memory.{length-word, length-mid}
 use Rattle.memory.proofs.Counts.{part-counted}
 use Rattle.memory.proofs.Replaced.{replaced-noted}
@@ -37,12 +35,11 @@ returns c =
     let ts = s .args .tallies .now in
     let b = s .args .block in
     let a = 8 * b in
-    let l = length-mid m a 8 (s .pre .1) in
     let d = c .before .before .before .before .before .before .before .word-bytes .ensures in
-    let p = c .before .before .before .before .replace-short in
+    let r = rw d at (c .before .before .before .before .replace-short .ensures) in
+    let n = replaced-noted (getD ts (b / 512) 0) (omega (arith, length-mid m a 8 (s .pre .1))) (r .0) (r .1) (c .retally .ensures) in
     part-counted m ts a (a + 8) (b / 512) (digits 256 8 w) (omega (arith, length-word w)) (s .pre .1) (omega arith) (omega (arith, length-word w))
-    (λ i. omega (arith, c .before .before .before .before .before .before .before .before .slice-known2 .given i))
-    (replaced-noted (take (a + 8 - a) (drop a m)) (digits 256 8 w) (p .result) (getD ts (b / 512) 0) (subst (λ (l : List ℕ). Replaced (take (a + 8 - a) (drop a m)) l (p .result)) d (p .ensures .1)) (omega (arith, l)) (p .ensures .0 ∙ d) (c .retally .ensures))
+    (λ i. omega (arith, c .before .before .before .before .before .before .before .before .slice-known2 .given i)) n
 
 pub put-block-spec : {M : Type 1} → statement M
 put-block-spec =

@@ -27,17 +27,23 @@ replace-short-requires c κs = simp (length-take, length-drop) (omega arith, ome
 add-changed : tie.Need-add-changed Inv-loop μ-loop
 add-changed c =
     let s = c .before .before .before .before .before .before .before .before .before .before in
-    omega (arith, s .pre, plus-le (c .before .before .before .before .before .before .before .loop .inv .2) (c .before .before .before .replace-short .ensures .1) (simp (length-take, length-drop) (omega arith)) .0)
+    let b = c .before .before .before .before .before .before .before .loop in
+    let r = c .before .before .before .replace-short .ensures in
+    omega (arith, s .pre, plus-le (b .inv .2) (r .1) (simp (length-take, length-drop) (omega arith)) .0)
 
 add-before : tie.Need-add-before Inv-loop μ-loop
 add-before c =
     let s = c .before .before .before .before .before .before .before .before .before .before .before in
-    omega (arith, s .pre, plus-le (c .before .before .before .before .before .before .before .before .loop .inv .2) (c .before .before .before .before .replace-short .ensures .1) (simp (length-take, length-drop) (omega arith)) .1)
+    let b = c .before .before .before .before .before .before .before .before .loop in
+    let r = c .before .before .before .before .replace-short .ensures in
+    omega (arith, s .pre, plus-le (b .inv .2) (r .1) (simp (length-take, length-drop) (omega arith)) .1)
 
 add-after : tie.Need-add-after Inv-loop μ-loop
 add-after c =
     let s = c .before .before .before .before .before .before .before .before .before .before .before .before in
-    omega (arith, s .pre, plus-le (c .before .before .before .before .before .before .before .before .before .loop .inv .2) (c .before .before .before .before .before .replace-short .ensures .1) (simp (length-take, length-drop) (omega arith)) .2)
+    let b = c .before .before .before .before .before .before .before .before .before .loop in
+    let r = c .before .before .before .before .before .replace-short .ensures in
+    omega (arith, s .pre, plus-le (b .inv .2) (r .1) (simp (length-take, length-drop) (omega arith)) .2)
 
 loop-again : tie.Need-loop-again Inv-loop μ-loop
 loop-again c =
@@ -52,17 +58,23 @@ replace-short-requires-2 c κs = simp (length-take, length-drop) (omega arith, o
 add-t28 : tie.Need-add-t28 Inv-loop μ-loop
 add-t28 c =
     let s = c .before .before .before .before .before .before .before .before .before .before in
-    omega (arith, s .pre, plus-le (c .before .before .before .before .before .before .before .loop .inv .2) (c .before .before .before .replace-short2 .ensures .1) (simp (length-take, length-drop) (omega arith)) .0)
+    let b = c .before .before .before .before .before .before .before .loop in
+    let r = c .before .before .before .replace-short2 .ensures in
+    omega (arith, s .pre, plus-le (b .inv .2) (r .1) (simp (length-take, length-drop) (omega arith)) .0)
 
 add-t29 : tie.Need-add-t29 Inv-loop μ-loop
 add-t29 c =
     let s = c .before .before .before .before .before .before .before .before .before .before .before in
-    omega (arith, s .pre, plus-le (c .before .before .before .before .before .before .before .before .loop .inv .2) (c .before .before .before .before .replace-short2 .ensures .1) (simp (length-take, length-drop) (omega arith)) .1)
+    let b = c .before .before .before .before .before .before .before .before .loop in
+    let r = c .before .before .before .before .replace-short2 .ensures in
+    omega (arith, s .pre, plus-le (b .inv .2) (r .1) (simp (length-take, length-drop) (omega arith)) .1)
 
 add-t30 : tie.Need-add-t30 Inv-loop μ-loop
 add-t30 c =
     let s = c .before .before .before .before .before .before .before .before .before .before .before .before in
-    omega (arith, s .pre, plus-le (c .before .before .before .before .before .before .before .before .before .loop .inv .2) (c .before .before .before .before .before .replace-short2 .ensures .1) (simp (length-take, length-drop) (omega arith)) .2)
+    let b = c .before .before .before .before .before .before .before .before .before .loop in
+    let r = c .before .before .before .before .before .replace-short2 .ensures in
+    omega (arith, s .pre, plus-le (b .inv .2) (r .1) (simp (length-take, length-drop) (omega arith)) .2)
 
 returns : tie.Need-returns Inv-loop μ-loop
 returns c =

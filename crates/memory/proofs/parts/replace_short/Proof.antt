@@ -50,5 +50,3 @@ replace-short-spec =
     (λ c. search needs)
     (λ c. search needs)
     returns-2)
-
--- x
