@@ -4,8 +4,8 @@ use mathlib.Core.List.{[]}
 use lib.ListN.{length}
 use Rattle.cart.specs.declared.Reply.{Reply}
 use Rattle.cart.specs.Calls.{loadSave, questions}
-use Rattle.cart.specs.Replies.{state, replied}
-use Rattle.cart.proofs.Replies.{step-no, step-yes, door-yes}
+use Rattle.cart.specs.Replies.{tallied, storeReplied}
+use Rattle.cart.proofs.Replies.{step-no, step-yes, store-door-yes}
 use borrow.Author.Needs.{needs}
 use Rattle.file_calls.proofs.load_save.Statement.{statement}
 use Rattle.file_calls.proofs.load_save.Tie as tie
@@ -13,19 +13,27 @@ use Rattle.file_calls.proofs.load_save.Tie as tie
 returns : tie.Need-returns
 unfolding questions
 returns c =
-    let a = c .before .before .before .before .before .args in
-    ap (λ (r : Reply). (r, a .memory .now)) (c .refuse .ensures)
-    ∙ ap replied (sym (step-no (loadSave (a .file .now)) [] (state (a .cart) (a .memory .now)) (c .before .before .door .result) (c .before .before .door .ensures) (c .before .if1 .taken)))
+    let a = c .before .before .before .before .before .before .args in
+    let d = c .before .before .store-door in
+    let s = tallied (a .cart) (a .memory .now) (a .tallies .now) in
+    ap (λ (r : Reply). (r, a .memory .now, a .tallies .now)) (c .refuse .ensures)
+    ∙ ap storeReplied (sym (step-no (loadSave (a .file .now)) [] s (d .result) (d .ensures) (c .before .if1 .taken)))
 
 load-requires : tie.Need-load-requires
-load-requires c κs = let a = c .before .before .before .before .before .args in door-yes (a .cart) (length (a .memory .now)) (c .before .before .door .result) (c .before .before .door .ensures) (c .before .if1 .left) .1
+load-requires c κs =
+    let a = c .before .before .before .before .before .before .before .args in
+    let d = c .before .before .before .store-door in
+    let y = store-door-yes (a .cart) (length (a .memory .now)) (length (a .tallies .now)) (d .result) (d .ensures) (c .before .before .if1 .left) in
+    (y .1, y .2)
 
 returns-2 : tie.Need-returns-2
 unfolding questions
 returns-2 c =
-    let a = c .before .before .before .before .before .before .before .before .args in
-    c .before .before .load .ensures
-    ∙ ap replied (sym (step-yes (loadSave (a .file .now)) [] (state (a .cart) (a .memory .now)) (c .before .before .before .before .before .door .result) (c .before .before .before .before .before .door .ensures) (c .before .before .before .before .if1 .left)))
+    let a = c .before .before .before .before .before .before .before .before .before .before .before .before .args in
+    let d = c .before .before .before .before .before .before .before .before .store-door in
+    let s = tallied (a .cart) (a .memory .now) (a .tallies .now) in
+    c .before .before .before .before .load .ensures
+    ∙ ap storeReplied (sym (step-yes (loadSave (a .file .now)) [] s (d .result) (d .ensures) (c .before .before .before .before .before .before .before .if1 .left)))
 
 pub load-save-spec : {M : Type 1} → statement M
 load-save-spec =
@@ -35,5 +43,6 @@ load-save-spec =
     (λ c κs. search needs)
     returns
     load-requires
+    (λ c. search needs)
     (λ c. search needs)
     returns-2)

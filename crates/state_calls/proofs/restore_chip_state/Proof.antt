@@ -7,7 +7,7 @@ use Rattle.cart.specs.declared.Reply.{Reply}
 use Rattle.cart.specs.declared.ChipRecord.{ChipRecord}
 use Rattle.cart.specs.ChipState.{chipOf}
 use Rattle.cart.specs.Record.{outcome}
-use Rattle.cart.specs.Calls.{stateWith, restoreQuestions, restore}
+use Rattle.cart.specs.Calls.{chipWith, restoreQuestions, restore}
 use Rattle.cart.specs.Replies.{state, cartWith, done, replied}
 use Rattle.cart.proofs.Fields.{state-size}
 use Rattle.cart.proofs.Replies.{guarded-no, guarded-yes}
@@ -23,7 +23,7 @@ returns c =
     λ m.
     let s = state (a .cart) m in
     ap (λ (r : Reply). (r, m)) (c .refuse .ensures)
-    ∙ ap replied (sym (guarded-no (restoreQuestions b s) [] s (outcome [] (stateWith s (a .cart .dirty) (chipOf b) m) []) 2 (rw (denied _ (c .before .before .record-allowed .ensures) (c .before .if1 .taken))) (λ z. omega arith)))
+    ∙ ap replied (sym (guarded-no (restoreQuestions b s) [] s (outcome [] (chipWith s (a .cart .dirty) (chipOf b)) []) 2 (rw (denied _ (c .before .before .record-allowed .ensures) (c .before .if1 .taken))) (λ z. omega arith)))
 
 returns-2 : tie.Need-returns-2
 unfolding restore
@@ -34,7 +34,7 @@ returns-2 c =
     λ m.
     let s = state (a .cart) m in
     ap (λ (r : Reply). (r, m)) (c .refuse2 .ensures)
-    ∙ ap replied (sym (guarded-no (restoreQuestions b s) [] s (outcome [] (stateWith s (a .cart .dirty) (chipOf b) m) []) (c .before .before .state-questions .result) (rw e (c .before .before .state-questions .ensures)) (c .before .if2 .taken)))
+    ∙ ap replied (sym (guarded-no (restoreQuestions b s) [] s (outcome [] (chipWith s (a .cart .dirty) (chipOf b)) []) (c .before .before .state-questions .result) (rw e (c .before .before .state-questions .ensures)) (c .before .if2 .taken)))
 
 chip-of-requires : tie.Need-chip-of-requires
 chip-of-requires c κs = state-size (c .before .before .before .before .before .args .bytes .now) (sym (c .before .state-questions .ensures) ∙ c .if2 .left)
@@ -48,7 +48,7 @@ returns-3 c =
     λ m.
     let s = state (a .cart) m in
     ap (λ (r : Reply). (r, m)) (c .done .ensures ∙ ap (done 0) (c .before .cart-with .ensures ∙ ap (λ (k : ChipRecord). cartWith (a .cart) (a .cart .dirty) k) (c .before .before .chip-of .ensures)))
-    ∙ ap replied (sym (guarded-yes (restoreQuestions b s) [] s (outcome [] (stateWith s (a .cart .dirty) (chipOf b) m) []) (c .before .before .before .before .state-questions .result) (rw e (c .before .before .before .before .state-questions .ensures)) (c .before .before .before .if2 .left)))
+    ∙ ap replied (sym (guarded-yes (restoreQuestions b s) [] s (outcome [] (chipWith s (a .cart .dirty) (chipOf b)) []) (c .before .before .before .before .state-questions .result) (rw e (c .before .before .before .before .state-questions .ensures)) (c .before .before .before .if2 .left)))
 
 pub restore-chip-state-spec : {M : Type 1} → statement M
 restore-chip-state-spec =
