@@ -1,7 +1,7 @@
 -- `c_byte_calls::write_valid` meets its contract. Assumes nothing.
 use mathlib.Core.Path.{sym, subst, ap, ap₂, _∙_}
 use mathlib.Core.List.{List}
-use Prim.Native.Nat.{ℕ, _*_}
+use Prim.Native.Nat.{ℕ}
 use native.Mathlib.Omega.{arith}
 use lib.ListN.{length, getD}
 use Rattle.memory.specs.Memory.{Fits}
@@ -39,7 +39,7 @@ apply-requires c κs =
     let n = length (a .memory .now) in
     let k = c .before .before .before .before .before .before .before .before .before .before .before .before .before .kind-in .result in
     let e = c .before .before .before .before .before .before .before .before .before .before .before .if1 .left ∙ c .before .before .before .before .before .before .before .before .before .before .before .before .memory-size .ensures in (
-      e ∙ whole-stretches k ∙ ap (λ (i : ℕ). 4096 * i) (sym (c .before .before .before .before .before .before .before .before .before .if2 .left ∙ c .before .before .before .before .before .before .before .before .before .before .tally-count .ensures)),
+      omega (arith, e, c .before .before .before .before .before .before .before .before .before .if2 .left ∙ c .before .before .before .before .before .before .before .before .before .before .tally-count .ensures, whole-stretches k),
       subst (λ (t : ByteStep). Fits (t .store) n) (sym (c .before .before .before .before .before .before .write-byte .ensures)) (step-fits k _ n (a .address) (a .value) e),
     )
 

@@ -1,6 +1,5 @@
 -- `c_serial_calls::write_valid` meets its contract. Assumes nothing.
 use mathlib.Core.Path.{sym, ap, _∙_}
-use Prim.Native.Nat.{ℕ, _*_}
 use native.Mathlib.Omega.{arith}
 use Rattle.kind.specs.Kind.{memorySize, tallyCount, usesEeprom}
 use Rattle.kind.proofs.Sizes.{whole-stretches}
@@ -49,7 +48,7 @@ turn-in-requires c κs =
     let n = c .before .before .before .before .before .before .before .before .before .before .before .before .before .before .if1 .left ∙ c .before .before .before .before .before .before .before .before .before .before .before .before .before .before .before .memory-size .ensures in
     let z = n ∙ ap memorySize (k .ensures) ∙ eeprom-size (cartOf (s .args .cart .now) .kind) (granted _ (c .before .before .before .before .before .before .before .before .before .before .before .uses-eeprom .ensures ∙ ap usesEeprom (k .ensures)) (c .before .before .before .before .before .before .before .before .before .before .if3 .left)) in (
       (omega arith, turned-fits _ _ _ _ (omega (arith, b .blockOk, z, ap (λ (e : Eeprom). e .block) (c .before .before .before .before .before .before .before .before .eeprom-in .ensures)))),
-      n ∙ whole-stretches (k .result) ∙ ap (λ (i : ℕ). 4096 * i) (sym (c .before .before .before .before .before .before .before .before .before .before .before .before .if2 .left ∙ c .before .before .before .before .before .before .before .before .before .before .before .before .before .tally-count .ensures)),
+      omega (arith, n, c .before .before .before .before .before .before .before .before .before .before .before .before .if2 .left ∙ c .before .before .before .before .before .before .before .before .before .before .before .before .before .tally-count .ensures, whole-stretches (k .result)),
     )
 
 returns-4 : tie.Need-returns-4
