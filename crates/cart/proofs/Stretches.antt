@@ -5,7 +5,7 @@ use mathlib.Core.List.{List, [], _∷_}
 use mathlib.Core.Option.{Option, none, some}
 use Prim.Native.Nat.{ℕ, _*_}
 use lib.Dec.{eqb}
-use lib.ListN.{length}
+use lib.ListN.{length, replicate}
 use Rattle.lists.specs.Lists.{bit}
 use Rattle.lists.specs.Questions.{asked}
 use Rattle.lists.proofs.Questions.{all-yes}
@@ -22,9 +22,10 @@ use Rattle.part.specs.Part.{partOf}
 use Rattle.cart.specs.declared.ChipRecord.{ChipRecord}
 use Rattle.cart.specs.Record.{State, Outcome, counted, recordAllowed, fresh, fromBytes}
 use Rattle.cart.specs.Calls.{Call, saveRead, saveWrite, eepromBeginDma, eepromWrite, eepromRead, loadSave, saveData, chipState, takeSaveDirty}
-use Rattle.cart.specs.Calls.{chipWith, stateWith, readSave, fileOf, exported, questions, accepted, step, restoreQuestions, restore, tallyQuestions, isBlank, inUse}
+use Rattle.cart.specs.Calls.{chipWith, stateWith, readSave, writeSave, load, fileOf, exported, questions, accepted, step, restoreQuestions, restore, importQuestions, importSave, tallyQuestions, isBlank, inUse}
+use Rattle.cart.specs.Cut.{fileIn, fileLeft, bytesLeft}
 use Rattle.cart.specs.Gbatek.{Usable}
-use Rattle.cart.specs.Stretches.{TalliesRight, Act, calls, imports, restores, act, acts, blankByReading, inUseByReading, takesTallies, withTallies, besideTallies, Stretches}
+use Rattle.cart.specs.Stretches.{TalliesRight, Act, calls, imports, restores, flags, act, acts, blankByReading, inUseByReading, takesTallies, withTallies, besideTallies, Stretches}
 use Rattle.cart.proofs.Sound.{record-allowed, opened, sound-fresh}
 use Rattle.cart.proofs.Changes.{step-keeps, restore-keeps, import-keeps}
 use Rattle.cart.proofs.Tallies.{right-step, right-restore, right-import, right-fresh, right-fit}
@@ -37,11 +38,17 @@ act-right : (a : Act) (s : State) → TalliesRight s → TalliesRight (act a s .
 act-right (calls c d) s r = right-step c d s r
 act-right (imports f) s r = right-import f s r
 act-right (restores b e) s r = right-restore b s r
+act-right (flags dirty) s r = r
+
+usable-flag : (dirty : Bool) (s : State) → Usable s → Usable (chipWith s dirty (s .cart .chip))
+unfolding recordAllowed
+usable-flag dirty s u = record { valid = u .valid; memoryOk = u .memoryOk; talliesOk = u .talliesOk; words = u .words }
 
 act-usable : (a : Act) (s : State) → Usable s → Usable (act a s .next)
 act-usable (calls c d) s u = usable-states .stays c d s u
 act-usable (imports f) s u = usable-states .imported f s u
 act-usable (restores b e) s u = usable-states .restored b s e u
+act-usable (flags dirty) s u = usable-flag dirty s u
 
 acts-keep : (list : List Act) (s : State) → Usable s → TalliesRight s → Usable (acts list s) × TalliesRight (acts list s)
 unfolding acts
@@ -95,6 +102,7 @@ module _ (s : State) where
   changed (calls c d) p = step-keeps Follows chips memories c d s p
   changed (imports f) p = import-keeps Follows chips memories f s p
   changed (restores b e) p = restore-keeps Follows chips memories b s p
+  changed (flags dirty) p = p
 
   changes : (a : Act) → Words (s .tallies) → Follows (act a s .next)
   changes a w = changed a (sym (retallied-same (s .memory) (s .tallies) w))
@@ -148,7 +156,58 @@ module _ (ts : List ℕ) (s : State) where
   apart c d e =
       rw (questions-apart c d e, accepted-apart c d e) (either-apart (eqb (asked (questions c d s)) 0) (counted s (accepted c d s)) _)
 
-  restored-apart : (b : List ℕ) → restore b (withTallies ts s) ≡ besideTallies ts (restore b s)
+  -- what a cut leaves
+  pub file-left-apart : fileLeft (withTallies ts s) ≡ fileLeft s
+  unfolding fileLeft
+  file-left-apart = ap (λ (o : Outcome). fileIn (o .given) (o .destination)) (apart saveData (replicate (length (s .memory)) 0) refl)
+
+  pub bytes-left-apart : bytesLeft (withTallies ts s) ≡ bytesLeft s
+  unfolding bytesLeft
+  bytes-left-apart = ap (λ (o : Outcome). o .given) (apart chipState [] refl)
+
+  -- as many others, passed
+  module _ (e : length ts ≡ length (s .tallies)) where
+    questions-many : (c : Call) (d : List ℕ) → questions c d (withTallies ts s) ≡ questions c d s
+    unfolding questions
+    questions-many (saveRead a) d = refl
+    questions-many (saveWrite a v) d = rw e
+    questions-many (eepromBeginDma words) d = refl
+    questions-many (eepromWrite v) d = rw e
+    questions-many eepromRead d = refl
+    questions-many (loadSave f) d = rw e
+    questions-many saveData d = rw (file-apart (s .cart .kind))
+    questions-many chipState d = refl
+    questions-many takeSaveDirty d = refl
+
+    accepted-many : (c : Call) (d : List ℕ) → besideTallies [] (accepted c d (withTallies ts s)) ≡ besideTallies [] (accepted c d s)
+    unfolding accepted readSave writeSave load
+    accepted-many (saveRead a) d = refl
+    accepted-many (saveWrite a v) d = refl
+    accepted-many (eepromBeginDma words) d = refl
+    accepted-many (eepromWrite v) d = refl
+    accepted-many eepromRead d = refl
+    accepted-many (loadSave f) d = refl
+    accepted-many saveData d = ap (besideTallies []) (unfold accepted readSave writeSave load in accepted-apart saveData d refl)
+    accepted-many chipState d = refl
+    accepted-many takeSaveDirty d = refl
+
+    either-many : (b : Bool) (x x′ y y′ : Outcome) → besideTallies [] x ≡ besideTallies [] x′ → besideTallies [] y ≡ besideTallies [] y′
+        → besideTallies [] (cond b x y) ≡ besideTallies [] (cond b x′ y′)
+    either-many true x x′ y y′ p q = p
+    either-many false x x′ y y′ p q = q
+
+    harmless : (c : Call) (d : List ℕ) → besideTallies [] (step c d (withTallies ts s)) ≡ besideTallies [] (step c d s)
+    unfolding step
+    harmless c d =
+        rw (questions-many c d)
+        (either-many (eqb (asked (questions c d s)) 0) (counted s (accepted c d (withTallies ts s))) (counted s (accepted c d s)) _ _
+        (ap (counted s) (accepted-many c d)) refl)
+
+    imported-harmless : (f : List ℕ) → besideTallies [] (importSave f (withTallies ts s)) ≡ besideTallies [] (importSave f s)
+    unfolding importSave load
+    imported-harmless f = rw e (either-many (eqb (asked (importQuestions f s)) 0) _ _ _ _ refl refl)
+
+  pub restored-apart : (b : List ℕ) → restore b (withTallies ts s) ≡ besideTallies ts (restore b s)
   unfolding restore
   restored-apart b = either-apart (eqb (asked (restoreQuestions b s)) 0) _ _
 
@@ -157,6 +216,8 @@ stretches =
     record {
       reads = reads;
       changes = λ a s. changes s a;
+      harmless = λ ts c d s e. harmless ts s e c d;
+      importedHarmless = λ ts f s e. imported-harmless ts s e f;
       apart = λ ts c d s. apart ts s c d;
       restoredApart = λ ts b s. restored-apart ts s b;
     }

@@ -3,16 +3,17 @@ use mathlib.Core.Path.{_≡_}
 use mathlib.Core.Bool.{Bool, true, false}
 use mathlib.Core.List.{List, [], _∷_}
 use Prim.Native.Nat.{ℕ}
+use lib.ListN.{length}
 use lib.Pow.{areBytes}
 use Rattle.lists.specs.Lists.{bit}
 use Rattle.counts.specs.Tallies.{Words, retallied, talliesOf, blankMemory, firstUsed, stretchOf, inUseNumber}
 use Rattle.image.specs.declared.Answer.{Answer}
 use Rattle.image.specs.Image.{answered}
 use Rattle.kind.specs.Kind.{tallyCount}
-use Rattle.cart.specs.Record.{State, Outcome, outcomeOf, fromBytes}
+use Rattle.cart.specs.Record.{State, Outcome, outcomeOf, outcome, fromBytes}
 use Rattle.cart.specs.Calls.{Call, saveRead, saveWrite, eepromBeginDma, eepromWrite, eepromRead}
 use Rattle.cart.specs.Calls.{loadSave, saveData, chipState, takeSaveDirty}
-use Rattle.cart.specs.Calls.{step, restore, importSave, isBlank, inUse}
+use Rattle.cart.specs.Calls.{chipWith, step, restore, importSave, isBlank, inUse}
 
 -- The invariant: each tally is its stretch's count of bytes other than FFh. An opening gives such tallies, and every
 -- call leaves such ones: a store adds to each the difference of the counts after it and before it.
@@ -20,16 +21,18 @@ abbrev pub TalliesRight : State → Type 0
 TalliesRight s = s .tallies ≡ talliesOf (tallyCount (s .cart .kind)) (s .memory)
 
 -- "every list of calls from a fresh cartridge, refused calls and restores among them": a call of the nine with its
--- destination, an import, a restore of any bytes
+-- destination, an import, a restore of any bytes; and the flag set by the host, as it may
 pub data Act : Type 0 where
   calls : Call → List ℕ → Act
   imports : List ℕ → Act
   restores : (b : List ℕ) → areBytes b ≡ true → Act
+  flags : Bool → Act
 
 abbrev pub act : Act → State → Outcome
 act (calls c d) s = step c d s
 act (imports f) s = importSave f s
 act (restores b e) s = restore b s
+act (flags dirty) s = outcome [] (chipWith s dirty (s .cart .chip)) []
 
 -- "each call gets record, memory and tallies as the last one left them"
 unfoldable pub acts : List Act → State → State
@@ -73,6 +76,11 @@ pub record Stretches : Type 0 where
   -- whatever tallies a call gets, they change as the memory does: "a store adds its change, modulo 65,536"
   pub changes : (a : Act) (s : State) → Words (s .tallies)
       → act a s .next .tallies ≡ retallied (s .memory) (act a s .next .memory) (s .tallies)
+  -- nothing but the tallies depends on their values: as many others give the same answers, record and memory
+  pub harmless : (ts : List ℕ) (c : Call) (d : List ℕ) (s : State) → length ts ≡ length (s .tallies)
+      → besideTallies [] (step c d (withTallies ts s)) ≡ besideTallies [] (step c d s)
+  pub importedHarmless : (ts f : List ℕ) (s : State) → length ts ≡ length (s .tallies)
+      → besideTallies [] (importSave f (withTallies ts s)) ≡ besideTallies [] (importSave f s)
   -- a call that is not passed the tallies does the same whatever they are, and leaves them
   pub apart : (ts : List ℕ) (c : Call) (d : List ℕ) (s : State) → takesTallies c ≡ false
       → step c d (withTallies ts s) ≡ besideTallies ts (step c d s)

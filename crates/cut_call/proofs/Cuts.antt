@@ -15,10 +15,11 @@ use Rattle.cart.specs.declared.Cartridge.{Cartridge}
 use Rattle.cart.specs.declared.Reply.{Reply}
 use Rattle.cart.specs.ChipState.{chipBytes}
 use Rattle.cart.specs.Record.{State, Outcome, recordAllowed}
-use Rattle.cart.specs.Calls.{saveData, chipState, fileOf, holds, exported, step}
+use Rattle.cart.specs.Calls.{saveData, chipState, fileOf, holds, exported, step, restore}
 use Rattle.cart.specs.Cut.{fileLeft, bytesLeft, reloaded}
-use Rattle.cart.specs.Replies.{state, first, exportReplied}
+use Rattle.cart.specs.Replies.{state, tallied, first, replied, exportReplied}
 use Rattle.cart.proofs.Resume.{file-fits, export-accepted, state-accepted, file-left, bytes-left, Long, file-long}
+use Rattle.cart.proofs.Stretches.{restored-apart}
 use Rattle.state_calls.specs.StateAnswer.{orZeros}
 use Rattle.cut_call.specs.Loads.{loadedFrom}
 
@@ -77,3 +78,9 @@ module _ (scratch d' : List ℕ) (cart : Cartridge) (m : List ℕ) (r : Reply) (
 pub bytes-are : (s : State) → recordAllowed (s .cart) ≡ true → orZeros (step chipState [] s .given) ≡ bytesLeft s
 unfolding chipBytes
 bytes-are s a = ap (λ (o : Outcome). orZeros (o .given)) (state-accepted s a) ∙ sym (bytes-left s a)
+
+-- a restore leaves the tallies that it is not passed
+pub restored-with : (b : List ℕ) (c : Cartridge) (m ts : List ℕ) {r : Reply} → (r, m) ≡ replied (restore b (state c m))
+    → tallied (r .cart) m ts ≡ restore b (tallied c m ts) .next
+restored-with b c m ts e =
+    (λ i. tallied (e i .0 .cart) (e i .1) ts) ∙ ap (λ (o : Outcome). o .next) (sym (restored-apart ts (state c m) b))
