@@ -95,7 +95,7 @@ pub fn import_save(
         return 3;
     }
     if tallies.len() != kind::tally_count(kind) {
-        return 16;
+        return 16; // asked before 14
     }
     if !file_sizes::takes(kind, file.len()) {
         return 14;

@@ -17,7 +17,7 @@ use Rattle.cart.specs.declared.Reply.{Reply}
 use Rattle.cart.specs.ChipState.{chipBytes, chipOf, stateQuestions}
 use Rattle.cart.specs.Record.{fromBytes}
 use Rattle.cart.specs.Calls.{chipState, questions, accepted, restore}
-use Rattle.cart.specs.Replies.{cartWith, replied}
+use Rattle.cart.specs.Replies.{cartWith, storeReplied}
 use Rattle.cart.proofs.ChipState.{bytes-back}
 use Rattle.cart.proofs.Fields.{state-size, state-fields}
 use Rattle.c_record.specs.RecordBytes.{recordBytes, chipIn, cartOf, Valid}
@@ -25,12 +25,13 @@ use Rattle.c_record.specs.AtExit.{called, stateAt}
 use Rattle.c_record.specs.Calls.{opens, givesState, restores}
 use Rattle.c_record.proofs.Calls.{done}
 
-pub opened : (image : List ℕ) (part : ℕ) (m : List ℕ) (reply : Reply) {b m' : List ℕ}
-    → (reply, m') ≡ replied (fromBytes image part m)
+pub opened : (image : List ℕ) (part : ℕ) (m ts : List ℕ) (reply : Reply) {b m' ts' : List ℕ}
+    → (reply, m', ts') ≡ storeReplied (fromBytes image part m ts)
     → b ≡ recordBytes (reply .cart)
-    → (reply .refusal, b, m') ≡ opens image part m
-opened image part m reply {m' = m'} e f =
-    ap (λ (l : List ℕ). (reply .refusal, l, m')) f ∙ ap (λ (q : Reply × List ℕ). (q .0 .refusal, recordBytes (q .0 .cart), q .1)) e
+    → (reply .refusal, b, m', ts') ≡ opens image part m ts
+opened image part m ts reply {m' = m'} {ts' = ts'} e f =
+    ap (λ (l : List ℕ). (reply .refusal, l, m', ts')) f
+    ∙ ap (λ (q : Reply × List ℕ × List ℕ). (q .0 .refusal, recordBytes (q .0 .cart), q .1, q .2)) e
 
 -- a copy that is as long as its destination
 whole : (f d : List ℕ) → length d ≤ length f → into f d ≡ f
@@ -63,7 +64,7 @@ module _ (r : List ℕ) (v : Valid r) where
   unfolding questions accepted
   state-yes m place g =
       let b = g ∙ ap chipIn (sym (v .back)) ∙ chip-read (cartOf r) in
-      (λ i. (0, sym (v .back) i, m, b i)) ∙ ap (stateAt place) (done chipState [] r m v (rw (v .allowed)))
+      (λ i. (0, sym (v .back) i, m, b i)) ∙ ap (stateAt place) (done chipState [] r m [] v (rw (v .allowed)))
 
   -- what is asked of the bytes to restore
   module _ (b m : List ℕ) (n : ℕ) (e : n ≡ asked (stateQuestions b)) where

@@ -3,7 +3,7 @@ use mathlib.Core.Path.{_≡_, refl, sym, ap, ap₂, subst, _∙_}
 use mathlib.Core.Bool.{Bool, true, false}
 use mathlib.Core.List.{List, [], _∷_, List·Memᴰ·head, List·Memᴰ·tail}
 use mathlib.Core.Option.{Option, none, some}
-use Prim.Native.Nat.{ℕ, _-_, _^_, _≤_, _<_}
+use Prim.Native.Nat.{ℕ, _^_, _≤_, _<_}
 use native.Mathlib.Nat.{pow-succ'}
 use native.Mathlib.Omega.{arith}
 use lib.Dec.{eqb}
@@ -25,8 +25,11 @@ use Rattle.cart.specs.Calls as machine
 use Rattle.cart.specs.Calls.{Call, step, restore, load, fileOf, exported, importQuestions}
 use Rattle.cart.specs.Cut as uncutMachine
 use Rattle.cart.specs.Resume.{Open, withFlag}
-use Rattle.cart.specs.Replies.{state}
+use Rattle.cart.specs.Replies.{tallied}
+use Rattle.cart.specs.Stretches.{takesTallies, withTallies, besideTallies}
 use Rattle.cart.proofs.Sound.{Sound, record-allowed, memory-fits, sound-fresh, opened}
+use Rattle.cart.proofs.Tallies.{Fit, right-fit}
+use Rattle.cart.proofs.Stretches.{stretches}
 use Rattle.cart.proofs.Recoverable.{Recoverable, NoByteWrite, recoverable-step, recoverable-fresh}
 use Rattle.cart.proofs.Resume.{Long, file-long, export-accepted, state-accepted, file-left, bytes-left, load-allowed, load-next, acc-lt, resumed-is, open-fresh, quiet}
 use Rattle.cart.proofs.CutRuns.{unflagged, either-quiet, step-same, recoverable-flag, left-same}
@@ -39,18 +42,32 @@ use Rattle.cart_abi.specs.CutBytes as bytes
 use Rattle.cart_abi.specs.CutBytes.{Target, anew, inPlace, Buffers, Turn, before, outcomeOf, foundOf, machineRun, callsOf, uncut, NoByteWrites, ExportedCutRuns}
 
 abbrev bytesOf : State → Bytes
-bytesOf s = record { bytes = recordBytes (s .cart); memory = s .memory }
+bytesOf s = record { bytes = recordBytes (s .cart); memory = s .memory; tallies = s .tallies }
 
 -- a call on the bytes of an allowed record is the machine's
 at-allowed : (call : State → Outcome) (d : List ℕ) (s : State) → recordAllowed (s .cart) ≡ true → s .cart .chip .eeprom .acc < 2 ^ 64
-    → called call d (recordBytes (s .cart)) (s .memory) ≡ left (call s)
+    → called call d (recordBytes (s .cart)) (s .memory) (s .tallies) ≡ left (call s)
 unfolding called
 at-allowed call d s a h =
     let w = record-and-bytes .written (s .cart) a h in
-    rw (w .0) (ap (λ (c : Cartridge). left (call (state c (s .memory)))) (w .1))
+    rw (w .0) (ap (λ (c : Cartridge). left (call (tallied c (s .memory) (s .tallies)))) (w .1))
 
-at-record : (call : State → Outcome) (d : List ℕ) (s : State) → Sound s → called call d (recordBytes (s .cart)) (s .memory) ≡ left (call s)
+at-record : (call : State → Outcome) (d : List ℕ) (s : State) → Sound s → called call d (recordBytes (s .cart)) (s .memory) (s .tallies) ≡ left (call s)
 at-record call d s k = at-allowed call d s (record-allowed s k) (acc-lt s k)
+
+-- and, passed no tallies, with the host's beside it
+abbrev beside : List ℕ → AtExit → AtExit
+beside ts x =
+    record { answer = x .answer; bytes = x .bytes; memory = x .memory; tallies = ts; destination = x .destination; given = x .given; flag = x .flag; changed = x .changed }
+
+at-apart : (call : State → Outcome) (d : List ℕ) (s : State) → recordAllowed (s .cart) ≡ true → s .cart .chip .eeprom .acc < 2 ^ 64
+    → call s ≡ besideTallies (s .tallies) (call (withTallies [] s))
+    → beside (s .tallies) (called call d (recordBytes (s .cart)) (s .memory) []) ≡ left (call s)
+at-apart call d s a h e = ap (beside (s .tallies)) (at-allowed call d (withTallies [] s) a h) ∙ ap left (sym e)
+
+untallied : (c : Call) (d : List ℕ) (s : State) → takesTallies c ≡ false → Sound s
+    → beside (s .tallies) (called (step c d) d (recordBytes (s .cart)) (s .memory) []) ≡ left (step c d s)
+untallied c d s e k = at-apart (step c d) d s (record-allowed s k) (acc-lt s k) (stretches .apart (s .tallies) c d (withTallies [] s) e)
 
 -- what a host finds, and goes on with
 abbrev seen : Made → Found × Bytes
@@ -58,15 +75,15 @@ seen m = (m .found, m .next)
 
 make-is : (c : ExportedCall) (s : State) → Sound s → seen (make c (bytesOf s)) ≡ (foundOf c (outcomeOf c s), bytesOf (outcomeOf c s .next))
 unfolding make
-make-is (saveRead a p) s k = ap (λ (x : AtExit). seen (valued (valueAt p x))) (at-record (step (machine.saveRead a) []) [] s k)
+make-is (saveRead a p) s k = ap (λ (x : AtExit). seen (valued (x .tallies) (valueAt p x))) (untallied (machine.saveRead a) [] s refl k)
 make-is (saveWrite a v p) s k = ap (λ (x : AtExit). seen (stored (changedAt p x))) (at-record (step (machine.saveWrite a v) []) [] s k)
-make-is (eepromBeginDma words) s k = ap (λ (x : AtExit). seen (plainly (plain x))) (at-record (step (machine.eepromBeginDma words) []) [] s k)
+make-is (eepromBeginDma words) s k = ap (λ (x : AtExit). seen (plainly (x .tallies) (plain x))) (untallied (machine.eepromBeginDma words) [] s refl k)
 make-is (eepromWrite v p) s k = ap (λ (x : AtExit). seen (stored (changedAt p x))) (at-record (step (machine.eepromWrite v) []) [] s k)
-make-is (eepromRead p) s k = ap (λ (x : AtExit). seen (valued (valueAt p x))) (at-record (step machine.eepromRead []) [] s k)
+make-is (eepromRead p) s k = ap (λ (x : AtExit). seen (valued (x .tallies) (valueAt p x))) (untallied machine.eepromRead [] s refl k)
 make-is (loadSave f p) s k = ap (λ (x : AtExit). seen (stored (changedAt p x))) (at-record (step (machine.loadSave f) []) [] s k)
-make-is (saveData d p) s k = ap (λ (x : AtExit). seen (filed (exportAt p x))) (at-record (step machine.saveData d) d s k)
-make-is (chipState p) s k = ap (λ (x : AtExit). seen (stated (stateAt p x))) (at-record (step machine.chipState []) [] s k)
-make-is (takeSaveDirty p) s k = ap (λ (x : AtExit). seen (flagged (flagAt p x))) (at-record (step machine.takeSaveDirty []) [] s k)
+make-is (saveData d p) s k = ap (λ (x : AtExit). seen (filed (x .tallies) (exportAt p x))) (untallied machine.saveData d s refl k)
+make-is (chipState p) s k = ap (λ (x : AtExit). seen (stated (x .tallies) (stateAt p x))) (untallied machine.chipState [] s refl k)
+make-is (takeSaveDirty p) s k = ap (λ (x : AtExit). seen (flagged (x .tallies) (flagAt p x))) (untallied machine.takeSaveDirty [] s refl k)
 make-is (importSave f q p) s k = ap (λ (x : AtExit). seen (imported (importAt q p x))) (at-record (machine.importSave f) [] s k)
 
 -- what is compared does not show the flag
@@ -89,7 +106,7 @@ recoverable-import image part f s r =
     let kept : List ℕ = keptPart (s .cart .kind) f in
     let k = r .sound in
     split (λ (o : Outcome). Recoverable image part (o .next)) (eqb (asked (importQuestions f s)) 0)
-    (λ e. subst (Recoverable image part) (load-next kept s (record-allowed s k) (memory-fits s k)) (recoverable-step image part (machine.loadSave kept) [] s (λ a v p. cc) r))
+    (λ e. subst (Recoverable image part) (load-next kept s (record-allowed s k) (memory-fits s k) (right-fit s (r .right))) (recoverable-step image part (machine.loadSave kept) [] s (λ a v p. cc) r))
     (λ e. r)
 
 import-quiet : (f : List ℕ) (s : State) → unflagged (machine.importSave f (quiet s)) ≡ unflagged (machine.importSave f s)
@@ -145,20 +162,20 @@ record Begun (image : List ℕ) (part : ℕ) (b : Bytes) : Type 0 where
   accOk : at .cart .chip .eeprom .acc < 2 ^ 64
 
 begun-is : (image : List ℕ) (part : ℕ) (y : Target image part) → Begun image part (bytes.begun y)
-begun-is image part (anew m h) =
-    let k = sound-fresh image part m h in
+begun-is image part (anew m ts h) =
+    let k = sound-fresh image part m ts h in
     let s : State = fresh image (partOf part) in
-    record { at = s; is = ap (λ (o : Outcome). bytesOf (o .next)) (opened image part m h); isOpen = open-fresh image part k; accOk = acc-lt s k }
+    record { at = s; is = ap (λ (o : Outcome). bytesOf (o .next)) (opened image part m ts h); isOpen = open-fresh image part k; accOk = acc-lt s k }
 begun-is image part (inPlace b o) =
     let y = record-and-bytes .read (b .bytes) (o .bytesOk) (o .valid) in
     record {
-      at = stateOf (b .bytes) (b .memory);
-      is = λ i. record { bytes = sym (y .1) i; memory = b .memory };
+      at = stateOf (b .bytes) (b .memory) (b .tallies);
+      is = λ i. record { bytes = sym (y .1) i; memory = b .memory; tallies = b .tallies };
       isOpen = o .isOpen;
       accOk = acc-bytes (b .bytes) (o .bytesOk) (o .valid);
     }
 
-module _ (t : State) (a : recordAllowed (t .cart) ≡ true) (b : eqb (length (t .memory)) (memorySize (t .cart .kind)) ≡ true) (c : t .cart .chip .eeprom .acc < 2 ^ 64) where
+module _ (t : State) (a : recordAllowed (t .cart) ≡ true) (b : eqb (length (t .memory)) (memorySize (t .cart .kind)) ≡ true) (k : Fit t) (c : t .cart .chip .eeprom .acc < 2 ^ 64) where
   reloaded-is : (p : ℕ) (o : Option (List ℕ)) → bytes.reloaded p o (bytesOf t) ≡ bytesOf (uncutMachine.reloaded o t)
   reloaded-is p none = refl
   reloaded-is p (some f) = ap (λ (x : AtExit). stored (changedAt p x) .next) (at-allowed (step (machine.loadSave f) []) [] t a c)
@@ -168,11 +185,12 @@ module _ (t : State) (a : recordAllowed (t .cart) ≡ true) (b : eqb (length (t 
   unfolding load
   reloaded-kept none = (a, c)
   reloaded-kept (some f) =
-      let n = load-next f t a b in
+      let n = load-next f t a b k in
       (ap (λ (z : State). recordAllowed (z .cart)) n ∙ load-allowed f t a, subst (λ (z : State). z .cart .chip .eeprom .acc < 2 ^ 64) (sym n) c)
 
 restored-is : (b : List ℕ) (t : State) → recordAllowed (t .cart) ≡ true → t .cart .chip .eeprom .acc < 2 ^ 64 → bytes.restored b (bytesOf t) ≡ bytesOf (restore b t .next)
-restored-is b t a c = ap (λ (x : AtExit). plainly (plain x) .next) (at-allowed (restore b) [] t a c)
+restored-is b t a c =
+    ap (λ (x : AtExit). plainly (x .tallies) (plain x) .next) (at-apart (restore b) [] t a c (stretches .restoredApart (t .tallies) b (withTallies [] t)))
 
 file-in : (f : Option (List ℕ)) (d : List ℕ) (p : ℕ) (s : State) → Long f
     → let e = exportAt p (left (exported f d s)) in bytes.fileIn (e .4) (e .3) ≡ f
@@ -192,7 +210,7 @@ module _ (image : List ℕ) (part : ℕ) (x : Buffers image part) (s : State) (r
       let d = x .destination in
       let k = r .sound in
       ap (λ (y : AtExit). let e = exportAt (x .fileLength) y in bytes.fileIn (e .4) (e .3))
-      (at-record (step machine.saveData d) d s k ∙ ap left (export-accepted d s (record-allowed s k) (memory-fits s k) holds-file))
+      (untallied machine.saveData d s refl k ∙ ap left (export-accepted d s (record-allowed s k) (memory-fits s k) holds-file))
       ∙ file-in (fileOf (s .cart .kind) s) d (x .fileLength) s (file-long (s .cart .kind) s (k .memoryOk))
       ∙ sym (file-left s (record-allowed s k) (memory-fits s k))
 
@@ -200,7 +218,7 @@ module _ (image : List ℕ) (part : ℕ) (x : Buffers image part) (s : State) (r
   unfolding bytes.stateLeft
   state-is =
       let k = r .sound in
-      ap (λ (y : AtExit). stateAt (x .state) y .3) (at-record (step machine.chipState []) [] s k ∙ ap left (state-accepted s (record-allowed s k)))
+      ap (λ (y : AtExit). stateAt (x .state) y .3) (untallied machine.chipState [] s refl k ∙ ap left (state-accepted s (record-allowed s k)))
       ∙ sym (bytes-left s (record-allowed s k))
 
   -- the flag that the cartridge has in which the host goes on
@@ -216,10 +234,11 @@ module _ (image : List ℕ) (part : ℕ) (x : Buffers image part) (s : State) (r
       let m = eq-eqb _ _ (y .isOpen .memoryOk) in
       let f : Option (List ℕ) = uncutMachine.fileLeft s in
       let b : List ℕ = uncutMachine.bytesLeft s in
-      let k = reloaded-kept t a m (y .accOk) f in
+      let u = right-fit t (y .isOpen .talliesOk) in
+      let k = reloaded-kept t a m u (y .accOk) f in
       ap₂ (λ (l : List ℕ) (o : Option (List ℕ)). bytes.restored l (bytes.reloaded (x .changed) o (bytes.begun (x .target)))) state-is file-is
       ∙ ap (λ (z : Bytes). bytes.restored b (bytes.reloaded (x .changed) f z)) (y .is)
-      ∙ ap (bytes.restored b) (reloaded-is t a m (y .accOk) (x .changed) f)
+      ∙ ap (bytes.restored b) (reloaded-is t a m u (y .accOk) (x .changed) f)
       ∙ restored-is b (uncutMachine.reloaded f t) (k .0) (k .1)
       ∙ ap bytesOf (resumed-is image part s t r (y .isOpen))
 
@@ -244,7 +263,7 @@ runs-are : (image : List ℕ) (part : ℕ) (list : List (Turn image part)) (end 
 unfolding bytes.run machineRun
 runs-are image part [] end s t n q r u =
     let l = left-same s t (r .sound) (u .sound) q in
-    λ i. record { calls = []; file = (file-is image part end s r ∙ l .0) i; state = (state-is image part end s r ∙ l .1) i }
+    λ i. record { calls = []; file = (file-is image part end s r ∙ l .0) i; state = (state-is image part end s r ∙ l .1) i; tallies = q i .tallies }
 runs-are image part (x ∷ list) end s t n q r u =
     let c : ExportedCall = x .call in
     let o : State → Outcome = outcomeOf c in
@@ -261,12 +280,12 @@ runs-are image part (x ∷ list) end s t n q r u =
     ap (λ (m : Found × Bytes). before (m .0) (bytes.run image part list end (bytes.cuts image part (x .cutsBehind) (m .1)))) (make-is c s (r .sound))
     ∙ (λ j. before (f j) (i j))
 
-with-cuts : (image : List ℕ) (part : ℕ) (memory : List ℕ) (xs : List (Buffers image part)) (list : List (Turn image part)) (end : Buffers image part)
-    → fromBytes image part memory .refusal ≡ 0 → NoByteWrites image (callsOf list)
-    → bytes.run image part list end (bytes.cuts image part xs (bytes.opened image part memory)) ≡ machineRun (callsOf list) (fromBytes image part memory .next)
-with-cuts image part memory xs list end h n =
-    let s : State = fromBytes image part memory .next in
-    let r : Recoverable image part s = rw (opened image part memory h) (recoverable-fresh image part memory h) in
+with-cuts : (image : List ℕ) (part : ℕ) (memory tallies : List ℕ) (xs : List (Buffers image part)) (list : List (Turn image part)) (end : Buffers image part)
+    → fromBytes image part memory tallies .refusal ≡ 0 → NoByteWrites image (callsOf list)
+    → bytes.run image part list end (bytes.cuts image part xs (bytes.opened image part memory tallies)) ≡ machineRun (callsOf list) (fromBytes image part memory tallies .next)
+with-cuts image part memory tallies xs list end h n =
+    let s : State = fromBytes image part memory tallies .next in
+    let r : Recoverable image part s = rw (opened image part memory tallies h) (recoverable-fresh image part memory tallies h) in
     let a = cuts-are image part xs s r in
     ap (bytes.run image part list end) (a .is) ∙ runs-are image part list end (a .at) s n (a .alike) (a .stands) r
 
@@ -274,19 +293,19 @@ calls-uncut : {image : List ℕ} {part : ℕ} (list : List (Turn image part)) �
 calls-uncut [] = refl
 calls-uncut (x ∷ list) = ap (λ (l : List ExportedCall). x .call ∷ l) (calls-uncut list)
 
-without-cuts : (image : List ℕ) (part : ℕ) (memory : List ℕ) (list : List (Turn image part)) (end : Buffers image part)
-    → fromBytes image part memory .refusal ≡ 0 → NoByteWrites image (callsOf list)
-    → bytes.run image part (uncut list) end (bytes.opened image part memory) ≡ machineRun (callsOf list) (fromBytes image part memory .next)
+without-cuts : (image : List ℕ) (part : ℕ) (memory tallies : List ℕ) (list : List (Turn image part)) (end : Buffers image part)
+    → fromBytes image part memory tallies .refusal ≡ 0 → NoByteWrites image (callsOf list)
+    → bytes.run image part (uncut list) end (bytes.opened image part memory tallies) ≡ machineRun (callsOf list) (fromBytes image part memory tallies .next)
 unfolding bytes.cuts
-without-cuts image part memory list end h n =
+without-cuts image part memory tallies list end h n =
     let e = calls-uncut list in
-    with-cuts image part memory [] (uncut list) end h (subst (NoByteWrites image) (sym e) n)
-    ∙ ap (λ (l : List ExportedCall). machineRun l (fromBytes image part memory .next)) e
+    with-cuts image part memory tallies [] (uncut list) end h (subst (NoByteWrites image) (sym e) n)
+    ∙ ap (λ (l : List ExportedCall). machineRun l (fromBytes image part memory tallies .next)) e
 
 pub exported-cut-runs : ExportedCutRuns
 exported-cut-runs =
     record {
       asMachine = with-cuts;
-      asUncut = λ image part memory xs list end h n.
-          with-cuts image part memory xs list end h n ∙ sym (without-cuts image part memory list end h n);
+      asUncut = λ image part memory tallies xs list end h n.
+          with-cuts image part memory tallies xs list end h n ∙ sym (without-cuts image part memory tallies list end h n);
     }

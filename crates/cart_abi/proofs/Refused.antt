@@ -18,10 +18,10 @@ use Rattle.cart.specs.declared.Cartridge.{Cartridge}
 use Rattle.cart.specs.ChipState.{chipOf}
 use Rattle.cart.specs.Record.{State, Outcome, guarded, refused, counted, openQuestions, outcome, fromBytes}
 use Rattle.cart.specs.Calls as machine
-use Rattle.cart.specs.Calls.{Call, stateWith, load, questions, accepted, step, restoreQuestions, restore, importQuestions}
+use Rattle.cart.specs.Calls.{Call, chipWith, load, questions, accepted, step, restoreQuestions, restore, importQuestions}
 use Rattle.cart.proofs.Counts.{accepted-0}
 use Rattle.c_record.specs.RecordBytes.{cartOf, isRecord, stateOf}
-use Rattle.c_record.specs.AtExit.{AtExit, left, untouched, called, plain, valueAt, changedAt, importAt, flagAt, stateAt, exportAt, askedAt}
+use Rattle.c_record.specs.AtExit.{AtExit, left, untouched, called, plain, talliedAt, valueAt, changedAt, importAt, flagAt, stateAt, exportAt, askedAt}
 use Rattle.c_record.specs.Calls as calls
 use Rattle.c_matcher_calls.specs.Calls.{searches, feeds}
 use Rattle.c_record.proofs.RecordBytes.{record-and-bytes}
@@ -45,77 +45,79 @@ guarded-leaves qs d s o z =
 machine-leaves : {call : State → Outcome} {d : List ℕ} → MachineCall call d → (s : State) → call s .refusal ≢ 0 → call s ≡ refused (call s .refusal) s d
 unfolding step restore machine.importSave
 machine-leaves (ofNine c d) s = guarded-leaves (questions c d s) d s (counted s (accepted c d s)) (accepted-0 c d s .0)
-machine-leaves (ofRestore b) s = guarded-leaves (restoreQuestions b s) [] s (outcome [] (stateWith s (s .cart .dirty) (chipOf b) (s .memory)) []) refl
+machine-leaves (ofRestore b) s = guarded-leaves (restoreQuestions b s) [] s (outcome [] (chipWith s (s .cart .dirty) (chipOf b)) []) refl
 machine-leaves (ofImport f) s =
     let part = keptPart (s .cart .kind) f in
     guarded-leaves (importQuestions f s) [] s (counted s (outcome (length part ∷ []) (load s part) [])) refl
 
 -- and so a record's bytes
-bytes-leave : {call : State → Outcome} {d : List ℕ} → MachineCall call d → (r m : List ℕ) → areBytes r ≡ true
-    → called call d r m .answer ≢ 0
-    → called call d r m ≡ untouched (called call d r m .answer) d r m
+bytes-leave : {call : State → Outcome} {d : List ℕ} → MachineCall call d → (r m ts : List ℕ) → areBytes r ≡ true
+    → called call d r m ts .answer ≢ 0
+    → called call d r m ts ≡ untouched (called call d r m ts .answer) d r m ts
 unfolding called
-bytes-leave {call} {d} q r m b =
-    split (λ (x : AtExit). x .answer ≢ 0 → x ≡ untouched (x .answer) d r m) (isRecord r)
+bytes-leave {call} {d} q r m ts b =
+    split (λ (x : AtExit). x .answer ≢ 0 → x ≡ untouched (x .answer) d r m ts) (isRecord r)
     (λ h z.
-    let s = stateOf r m in
-    ap left (machine-leaves q s z) ∙ ap (λ (l : List ℕ). untouched (call s .refusal) d l m) (record-and-bytes .read r b h .1))
+    let s = stateOf r m ts in
+    ap left (machine-leaves q s z) ∙ ap (λ (l : List ℕ). untouched (call s .refusal) d l m ts) (record-and-bytes .read r b h .1))
     (λ h z. refl)
 
 -- and a place
 kept : {A : Type 0} (n : ℕ) (value place : A) → n ≢ 0 → placed n value place ≡ place
 kept n value place h = rw (ne-eqb n 0 h)
 
-module _ {call : State → Outcome} {d : List ℕ} (q : MachineCall call d) (b : Bytes) (h : areBytes (b .bytes) ≡ true) (z : called call d (b .bytes) (b .memory) .answer ≢ 0) where
+-- the tallies passed are ts
+module _ {call : State → Outcome} {d : List ℕ} (q : MachineCall call d) (b : Bytes) (h : areBytes (b .bytes) ≡ true) (ts : List ℕ) (z : called call d (b .bytes) (b .memory) ts .answer ≢ 0) where
   abbrev exit : AtExit
-  exit = called call d (b .bytes) (b .memory)
+  exit = called call d (b .bytes) (b .memory) ts
 
   abbrev n : ℕ
   n = exit .answer
 
-  abbrev leaves : exit ≡ untouched n d (b .bytes) (b .memory)
-  leaves = bytes-leave q (b .bytes) (b .memory) h z
+  abbrev leaves : exit ≡ untouched n d (b .bytes) (b .memory) ts
+  leaves = bytes-leave q (b .bytes) (b .memory) ts h z
 
-  plain-leaves : plainly (plain exit) ≡ made (found n 0 0 []) 0 (b .bytes) (b .memory)
-  plain-leaves = ap (λ (x : AtExit). plainly (plain x)) leaves
+  plain-leaves : plainly (b .tallies) (plain exit) ≡ made (found n 0 0 []) 0 (b .bytes) (b .memory) (b .tallies)
+  plain-leaves = ap (λ (x : AtExit). plainly (b .tallies) (plain x)) leaves
 
-  value-leaves : (p : ℕ) → valued (valueAt p exit) ≡ made (found n p 0 []) 0 (b .bytes) (b .memory)
-  value-leaves p = ap (λ (x : AtExit). valued (valueAt p x)) leaves ∙ ap (λ (v : ℕ). made (found n v 0 []) 0 (b .bytes) (b .memory)) (kept n 0 p z)
+  value-leaves : (p : ℕ) → valued (b .tallies) (valueAt p exit) ≡ made (found n p 0 []) 0 (b .bytes) (b .memory) (b .tallies)
+  value-leaves p = ap (λ (x : AtExit). valued (b .tallies) (valueAt p x)) leaves ∙ ap (λ (v : ℕ). made (found n v 0 []) 0 (b .bytes) (b .memory) (b .tallies)) (kept n 0 p z)
 
-  store-leaves : (p : ℕ) → stored (changedAt p exit) ≡ made (found n 0 p []) 0 (b .bytes) (b .memory)
-  store-leaves p = ap (λ (x : AtExit). stored (changedAt p x)) leaves ∙ ap (λ (v : ℕ). made (found n 0 v []) 0 (b .bytes) (b .memory)) (kept n 0 p z)
+  flag-leaves : (p : ℕ) → flagged (b .tallies) (flagAt p exit) ≡ made (found n 0 0 []) p (b .bytes) (b .memory) (b .tallies)
+  flag-leaves p = ap (λ (x : AtExit). flagged (b .tallies) (flagAt p x)) leaves ∙ ap (λ (v : ℕ). made (found n 0 0 []) v (b .bytes) (b .memory) (b .tallies)) (kept n 0 p z)
 
-  import-leaves : (k p : ℕ) → imported (importAt k p exit) ≡ made (found n k p []) 0 (b .bytes) (b .memory)
+  state-leaves : (p : List ℕ) → stated (b .tallies) (stateAt p exit) ≡ made (found n 0 0 p) 0 (b .bytes) (b .memory) (b .tallies)
+  state-leaves p = ap (λ (x : AtExit). stated (b .tallies) (stateAt p x)) leaves ∙ ap (λ (v : List ℕ). made (found n 0 0 v) 0 (b .bytes) (b .memory) (b .tallies)) (kept n [] p z)
+
+  file-leaves : (p : ℕ) → filed (b .tallies) (exportAt p exit) ≡ made (found n p 0 d) 0 (b .bytes) (b .memory) (b .tallies)
+  file-leaves p = ap (λ (x : AtExit). filed (b .tallies) (exportAt p x)) leaves ∙ ap (λ (v : ℕ). made (found n v 0 d) 0 (b .bytes) (b .memory) (b .tallies)) (kept n 0 p z)
+
+  store-leaves : (p : ℕ) → stored (changedAt p exit) ≡ made (found n 0 p []) 0 (b .bytes) (b .memory) ts
+  store-leaves p = ap (λ (x : AtExit). stored (changedAt p x)) leaves ∙ ap (λ (v : ℕ). made (found n 0 v []) 0 (b .bytes) (b .memory) ts) (kept n 0 p z)
+
+  import-leaves : (k p : ℕ) → imported (importAt k p exit) ≡ made (found n k p []) 0 (b .bytes) (b .memory) ts
   import-leaves k p =
       ap (λ (x : AtExit). imported (importAt k p x)) leaves
-      ∙ ap₂ (λ (v w : ℕ). made (found n v w []) 0 (b .bytes) (b .memory)) (kept n 0 k z) (kept n 0 p z)
-
-  flag-leaves : (p : ℕ) → flagged (flagAt p exit) ≡ made (found n 0 0 []) p (b .bytes) (b .memory)
-  flag-leaves p = ap (λ (x : AtExit). flagged (flagAt p x)) leaves ∙ ap (λ (v : ℕ). made (found n 0 0 []) v (b .bytes) (b .memory)) (kept n 0 p z)
-
-  state-leaves : (p : List ℕ) → stated (stateAt p exit) ≡ made (found n 0 0 p) 0 (b .bytes) (b .memory)
-  state-leaves p = ap (λ (x : AtExit). stated (stateAt p x)) leaves ∙ ap (λ (v : List ℕ). made (found n 0 0 v) 0 (b .bytes) (b .memory)) (kept n [] p z)
-
-  file-leaves : (p : ℕ) → filed (exportAt p exit) ≡ made (found n p 0 d) 0 (b .bytes) (b .memory)
-  file-leaves p = ap (λ (x : AtExit). filed (exportAt p x)) leaves ∙ ap (λ (v : ℕ). made (found n v 0 d) 0 (b .bytes) (b .memory)) (kept n 0 p z)
+      ∙ ap₂ (λ (v w : ℕ). made (found n v w []) 0 (b .bytes) (b .memory) ts) (kept n 0 k z) (kept n 0 p z)
 
 calls-leave : (c : ExportedCall) (b : Bytes) → areBytes (b .bytes) ≡ true → make c b .found .answer ≢ 0 → make c b ≡ unchanged c (make c b .found .answer) b
 unfolding make
-calls-leave (saveRead a p) b h z = value-leaves (ofNine (machine.saveRead a) []) b h z p
-calls-leave (saveWrite a v p) b h z = store-leaves (ofNine (machine.saveWrite a v) []) b h z p
-calls-leave (eepromBeginDma words) b h z = plain-leaves (ofNine (machine.eepromBeginDma words) []) b h z
-calls-leave (eepromWrite v p) b h z = store-leaves (ofNine (machine.eepromWrite v) []) b h z p
-calls-leave (eepromRead p) b h z = value-leaves (ofNine machine.eepromRead []) b h z p
-calls-leave (loadSave f p) b h z = store-leaves (ofNine (machine.loadSave f) []) b h z p
-calls-leave (saveData d p) b h z = file-leaves (ofNine machine.saveData d) b h z p
-calls-leave (chipState p) b h z = state-leaves (ofNine machine.chipState []) b h z p
-calls-leave (takeSaveDirty p) b h z = flag-leaves (ofNine machine.takeSaveDirty []) b h z p
-calls-leave (importSave f k p) b h z = import-leaves (ofImport f) b h z k p
+calls-leave (saveRead a p) b h z = value-leaves (ofNine (machine.saveRead a) []) b h [] z p
+calls-leave (saveWrite a v p) b h z = store-leaves (ofNine (machine.saveWrite a v) []) b h (b .tallies) z p
+calls-leave (eepromBeginDma words) b h z = plain-leaves (ofNine (machine.eepromBeginDma words) []) b h [] z
+calls-leave (eepromWrite v p) b h z = store-leaves (ofNine (machine.eepromWrite v) []) b h (b .tallies) z p
+calls-leave (eepromRead p) b h z = value-leaves (ofNine machine.eepromRead []) b h [] z p
+calls-leave (loadSave f p) b h z = store-leaves (ofNine (machine.loadSave f) []) b h (b .tallies) z p
+calls-leave (saveData d p) b h z = file-leaves (ofNine machine.saveData d) b h [] z p
+calls-leave (chipState p) b h z = state-leaves (ofNine machine.chipState []) b h [] z p
+calls-leave (takeSaveDirty p) b h z = flag-leaves (ofNine machine.takeSaveDirty []) b h [] z p
+calls-leave (importSave f k p) b h z = import-leaves (ofImport f) b h (b .tallies) z k p
 
-opening : (image : List ℕ) (part : ℕ) (m : List ℕ) → calls.opens image part m .0 ≢ 0 → calls.opens image part m ≡ (calls.opens image part m .0, replicate 25 0, m)
+opening : (image : List ℕ) (part : ℕ) (m ts : List ℕ) → calls.opens image part m ts .0 ≢ 0
+    → calls.opens image part m ts ≡ (calls.opens image part m ts .0, replicate 25 0, m, ts)
 unfolding fromBytes
-opening image part m =
-    split (λ (o : Outcome). o .refusal ≢ 0 → plain (left o) ≡ (o .refusal, replicate 25 0, m)) (eqb (asked (openQuestions image part m)) 0) (λ t h. absurd (h refl))
+opening image part m ts =
+    split (λ (o : Outcome). o .refusal ≢ 0 → talliedAt (left o) ≡ (o .refusal, replicate 25 0, m, ts)) (eqb (asked (openQuestions image part m ts)) 0) (λ t h. absurd (h refl))
     (λ t h. rw (record-and-bytes .nothing))
 
 -- the calls of a record alone, and of an image
@@ -145,7 +147,7 @@ pub refused-leaves : RefusedLeaves
 refused-leaves =
     record {
       calls = calls-leave;
-      restore = λ b r m h z. ap plain (bytes-leave (ofRestore b) r m h z);
+      restore = λ b r m h z. ap plain (bytes-leave (ofRestore b) r m [] h z);
       opening = opening;
       ofRecord = of-record;
       ofImage = of-image;

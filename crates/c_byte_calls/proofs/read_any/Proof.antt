@@ -12,7 +12,7 @@ use Rattle.c_byte_calls.proofs.read_any.Tie as tie
 returns : tie.Need-returns
 returns c =
     let a = c .before .before .before .args in
-    ap (valueAt (a .value .now)) (no-record (step (saveRead (a .address)) []) [] (a .cart .now) (a .memory .now) (denied _ (c .before .is-record .ensures .0) (c .if1 .taken)))
+    ap (valueAt (a .value .now)) (no-record (step (saveRead (a .address)) []) [] (a .cart .now) (a .memory .now) [] (denied _ (c .before .is-record .ensures .0) (c .if1 .taken)))
 
 read-valid-requires : tie.Need-read-valid-requires
 read-valid-requires c κs =

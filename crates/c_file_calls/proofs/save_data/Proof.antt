@@ -1,5 +1,6 @@
 -- `c_file_calls::save_data` meets its contract. Assumes nothing.
 use mathlib.Core.Path.{sym, ap, ap₂, _∙_}
+use mathlib.Core.List.{[]}
 use native.Mathlib.Omega.{arith}
 use lib.Dec.{eqb}
 use lib.ListN.{getD}
@@ -20,7 +21,7 @@ returns : tie.Need-returns
 returns c =
     let a = c .before .before .before .before .args in
     let d = a .destination .now in
-    ap (exportAt (a .length .now)) (no-record (step saveData d) d (a .cart .now) (a .memory .now) (denied _ (c .before .is-record .ensures .0) (c .if1 .taken)))
+    ap (exportAt (a .length .now)) (no-record (step saveData d) d (a .cart .now) (a .memory .now) [] (denied _ (c .before .is-record .ensures .0) (c .if1 .taken)))
 
 returns-2 : tie.Need-returns-2
 returns-2 c =

@@ -12,7 +12,7 @@ use Rattle.c_serial_calls.proofs.dma_any.Tie as tie
 returns : tie.Need-returns
 returns c =
     let a = c .before .before .before .args in
-    λ m. ap plain (no-record (step (eepromBeginDma (a .words)) []) [] (a .cart .now) m (denied _ (c .before .is-record .ensures .0) (c .if1 .taken)))
+    λ m. ap plain (no-record (step (eepromBeginDma (a .words)) []) [] (a .cart .now) m [] (denied _ (c .before .is-record .ensures .0) (c .if1 .taken)))
 
 dma-valid-requires : tie.Need-dma-valid-requires
 dma-valid-requires c κs =

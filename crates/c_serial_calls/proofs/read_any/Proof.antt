@@ -12,7 +12,7 @@ use Rattle.c_serial_calls.proofs.read_any.Tie as tie
 returns : tie.Need-returns
 returns c =
     let a = c .before .before .before .before .args in
-    ap (valueAt (a .bit .now)) (no-record (step eepromRead []) [] (a .cart .now) (a .memory .now) (denied _ (c .before .is-record .ensures .0) (c .if1 .taken)))
+    ap (valueAt (a .bit .now)) (no-record (step eepromRead []) [] (a .cart .now) (a .memory .now) [] (denied _ (c .before .is-record .ensures .0) (c .if1 .taken)))
 
 read-valid-requires : tie.Need-read-valid-requires
 read-valid-requires c κs =

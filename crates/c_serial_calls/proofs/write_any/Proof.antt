@@ -11,13 +11,13 @@ use Rattle.c_serial_calls.proofs.write_any.Tie as tie
 
 returns : tie.Need-returns
 returns c =
-    let a = c .before .before .before .before .args in
-    ap (changedAt (a .changed .now)) (no-record (step (eepromWrite (a .value)) []) [] (a .cart .now) (a .memory .now) (denied _ (c .before .is-record .ensures .0) (c .if1 .taken)))
+    let a = c .before .before .before .before .before .args in
+    ap (changedAt (a .changed .now)) (no-record (step (eepromWrite (a .value)) []) [] (a .cart .now) (a .memory .now) (a .tallies .now) (denied _ (c .before .is-record .ensures .0) (c .if1 .taken)))
 
 write-valid-requires : tie.Need-write-valid-requires
 write-valid-requires c κs =
-    let i = c .before .before .before .before .is-record .ensures in
-    i .1 (granted _ (i .0) (c .before .before .before .if1 .left))
+    let i = c .before .before .before .before .before .is-record .ensures in
+    i .1 (granted _ (i .0) (c .before .before .before .before .if1 .left))
 
 pub write-any-spec : {M : Type 1} → statement M
 write-any-spec =
@@ -26,5 +26,6 @@ write-any-spec =
     (λ c κs. search needs)
     returns
     write-valid-requires
+    (λ c. search needs)
     (λ c. search needs)
     (λ c. search needs))

@@ -13,7 +13,7 @@ use Rattle.c_state_calls.proofs.states.chip_state.Tie as tie
 returns : tie.Need-returns
 returns c =
     let a = c .before .before .args in
-    λ m. ap (stateAt (a .bytes .now)) (no-record (step chipState []) [] (a .cart .now) m (denied _ (c .before .is-record .ensures .0) (c .if1 .taken)))
+    λ m. ap (stateAt (a .bytes .now)) (no-record (step chipState []) [] (a .cart .now) m [] (denied _ (c .before .is-record .ensures .0) (c .if1 .taken)))
 
 returns-2 : tie.Need-returns-2
 returns-2 c =

@@ -6,9 +6,9 @@ use Rattle.c_state_calls.proofs.states.from_bytes.Tie as tie
 
 returns : tie.Need-returns
 returns c =
-    let o = c .before .before .before .before .before in
-    let a = o .before .before .before .before .args in
-    opened (a .image .now) (a .part) (a .memory .now) (o .from-number .result) (o .from-number .ensures) (c .before .record-bytes .ensures)
+    let a = c .before .before .before .before .before .before .before .before .before .before .before .before .before .args in
+    let o = c .before .before .before .before .before .before .before .from-number in
+    opened (a .image .now) (a .part) (a .memory .now) (a .tallies .now) (o .result) (o .ensures) (c .before .record-bytes .ensures)
 
 pub from-bytes-spec : {M : Type 1} → statement M
 from-bytes-spec =
@@ -16,6 +16,7 @@ from-bytes-spec =
     (tie.spec
     (λ c κs. search needs)
     (λ c κs. search needs)
+    (λ c. search needs)
     (λ c. search needs)
     (λ c. search needs)
     returns)

@@ -16,7 +16,7 @@ use Rattle.c_state_calls.proofs.states.restore_chip_state.Tie as tie
 returns : tie.Need-returns
 returns c =
     let a = c .before .before .before .before .args in
-    λ m. ap plain (no-record (restore (a .bytes .now)) [] (a .cart .now) m (denied _ (c .before .is-record .ensures .0) (c .if1 .taken)))
+    λ m. ap plain (no-record (restore (a .bytes .now)) [] (a .cart .now) m [] (denied _ (c .before .is-record .ensures .0) (c .if1 .taken)))
 
 returns-2 : tie.Need-returns-2
 returns-2 c =

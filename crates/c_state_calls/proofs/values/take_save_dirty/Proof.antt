@@ -14,7 +14,7 @@ use Rattle.c_state_calls.proofs.values.take_save_dirty.Tie as tie
 returns : tie.Need-returns
 returns c =
     let a = c .before .before .before .args in
-    λ m. ap (flagAt (a .flag .now)) (no-record (step takeSaveDirty []) [] (a .cart .now) m (denied _ (c .before .is-record .ensures .0) (c .if1 .taken)))
+    λ m. ap (flagAt (a .flag .now)) (no-record (step takeSaveDirty []) [] (a .cart .now) m [] (denied _ (c .before .is-record .ensures .0) (c .if1 .taken)))
 
 cast-flag : tie.Need-cast-flag
 cast-flag c =
