@@ -108,8 +108,8 @@
  * TALLIES. A save menu can show "empty" without a reading of the memory. A stretch is 4,096 bytes of the memory:
  * stretch 0 is the first 4,096 bytes, stretch 1 the next, and so on. A byte is in use if it is not FFh. For each
  * stretch the caller keeps a tally beside the memory, a uint16_t: how many bytes of the stretch are in use. The tally
- * of stretch 0 comes first. The table at KINDS says how many tallies a kind has. It is the memory's length /
- * GBASAVE_STRETCH_SIZE, at most GBASAVE_MAX_TALLIES. Opening and the four calls that store are passed the tallies:
+ * of stretch 0 comes first. The number of tallies is the memory's length / GBASAVE_STRETCH_SIZE, as the table at KINDS
+ * has it; it is at most GBASAVE_MAX_TALLIES. Opening and the four calls that store are passed the tallies:
  *
  *   - gbasave_from_bytes sets every tally to 0. Every byte of the memory is then FFh.
  *   - A call that stores adds its change to each tally: the tally becomes (tally + bytes of its stretch in use after
@@ -386,9 +386,9 @@ uint32_t gbasave_detect_save_type(const uint8_t *image, size_t image_length, uin
 uint32_t gbasave_search(const uint8_t *image, size_t image_length, uint32_t *kind, uint32_t *handed);
 
 /*
- * Gets the size of the save memory of the image's kind: the length of the memory to pass to gbasave_from_bytes. It is
- * also the largest size that gbasave_save_fit keeps. The size is 0 for an image below 192 bytes. An image above
- * 33,554,432 bytes is treated like any other.
+ * Gets the size of the save memory of the image's kind: the length of the memory to pass to gbasave_from_bytes, with
+ * size / GBASAVE_STRETCH_SIZE tallies. It is also the largest size that gbasave_save_fit keeps. The size is 0 for an
+ * image below 192 bytes. An image above 33,554,432 bytes is treated like any other.
  *   Asks:    nothing, and returns 0.
  *   Writes:  *size.
  */
