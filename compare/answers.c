@@ -1,9 +1,11 @@
 /*
  * Replays the stored answers of the original through the C calls, without the original: reads the list that README.md describes, makes the
  * call of each line and compares the answer. The list has no number of changed bytes: after each call that stores, the number is compared with
- * a count over the memory before and after the call. Prints the first lines that differ, then for each frame how many lines were replayed and
- * how many of them differ. The status is 1 if an answer or a number differs, if the list is malformed or if a line of it was not replayed.
- * --fault count counts one byte too few, which has to be found.
+ * a count over the memory before and after the call. Nor has it tallies: after each call on the cartridge, they and the two answers from them are
+ * compared with a reading of the memory. Prints the first lines that differ, then for each frame how many lines were replayed and how many of them
+ * differ. The status is 1 if an answer or a number differs, if the list is malformed or if a line of it was not replayed.
+ * --fault count counts one changed byte too few, --fault tallies one byte in use, and --fault stretches numbers stretches from 1. Each has to be
+ * found.
  */
 #include "gbasave.h"
 
@@ -31,6 +33,9 @@ static struct {
     gbasave_record record;
     uint8_t memory[GBASAVE_MEMORY_MAX];
     uint32_t size;
+    uint16_t tallies[GBASAVE_MAX_TALLIES];
+    size_t tally_count;
+    bool is_open;
 } cart;
 
 static uint8_t image[GBASAVE_IMAGE_MAX];
@@ -38,12 +43,15 @@ static uint8_t file[FILE_MAX];
 
 /* The cartridge's memory before a call that stores. */
 static uint8_t before[GBASAVE_MEMORY_MAX];
-static bool faulty_count;
+
+/* What is counted or numbered wrongly. */
+static enum { NOTHING, COUNT, TALLIES, STRETCHES } fault;
+static const char *const FAULT[] = {"nothing", "count", "tallies", "stretches"};
 
 /* Lines, by the frame's number. */
 static struct {
     unsigned long replayed, differ;
-} tally[FRAMES];
+} by_frame[FRAMES];
 
 /* ---- Digits -------------------------------------------------------------------------------------------------------- */
 
@@ -131,7 +139,7 @@ static uint32_t changed_bytes(void)
     for (size_t i = 0; i < cart.size; i++)
         if (cart.memory[i] != before[i])
             changed++;
-    return faulty_count && changed > 0 ? changed - 1 : changed;
+    return fault == COUNT && changed > 0 ? changed - 1 : changed;
 }
 
 /* 00, or the number of the refusal. If the call wrote another number of changed bytes than there are, or any at a refusal, that is in the answer
@@ -142,6 +150,37 @@ static void put_stored(struct answer *a, uint32_t refusal, uint32_t changed)
     if (changed != expected)
         a->count += (size_t)snprintf(a->digits + a->count, sizeof a->digits - a->count, " and %lu changed bytes, not %lu",
                                      (unsigned long)changed, (unsigned long)expected);
+}
+
+/* ---- Tallies ------------------------------------------------------------------------------------------------------- */
+
+/* How many bytes of a stretch are in use. */
+static uint32_t in_use(size_t stretch)
+{
+    uint32_t used = 0;
+    for (size_t i = stretch * GBASAVE_STRETCH_SIZE; i < (stretch + 1) * GBASAVE_STRETCH_SIZE; i++)
+        if (cart.memory[i] != 0xFF)
+            used++;
+    return fault == TALLIES && used > 0 ? used - 1 : used;
+}
+
+/* If the tallies are not those of the memory, or the answers from them, that is in the answer too, which then differs. */
+static void put_tallies(struct answer *a)
+{
+    uint32_t blank = NO_VALUE, first = NO_VALUE, expected = GBASAVE_NONE_IN_USE;
+    size_t wrong = 0;
+    for (size_t i = cart.tally_count; i-- > 0;) {
+        const uint32_t used = in_use(i);
+        wrong += cart.tallies[i] != used;
+        if (used > 0)
+            expected = (uint32_t)i + (fault == STRETCHES);
+    }
+    const uint32_t refusal = gbasave_is_blank(&cart.record, cart.tallies, cart.tally_count, &blank) |
+                             gbasave_first_in_use(&cart.record, cart.tallies, cart.tally_count, &first);
+    if (wrong != 0 || refusal != 0 || first != expected || blank != (expected == GBASAVE_NONE_IN_USE))
+        a->count += (size_t)snprintf(a->digits + a->count, sizeof a->digits - a->count,
+                                     " and %zu wrong tallies, blank %lu, first in use %lu, not %lu", wrong, (unsigned long)blank,
+                                     (unsigned long)first, (unsigned long)expected);
 }
 
 /* ---- Files and images ---------------------------------------------------------------------------------------------- */
@@ -216,7 +255,8 @@ static void read_byte(const uint8_t *s, struct answer *a)
 static void write_byte(const uint8_t *s, struct answer *a)
 {
     uint32_t changed = keep_memory();
-    const uint32_t refusal = gbasave_save_write(&cart.record, cart.memory, cart.size, number(s, 4), s[4], &changed);
+    const uint32_t refusal = gbasave_save_write(&cart.record, cart.memory, cart.size, cart.tallies, cart.tally_count, number(s, 4), s[4],
+                                                &changed);
     put_stored(a, refusal, changed);
 }
 
@@ -232,7 +272,8 @@ static void bit_out(struct answer *a)
 static void bit_in(const uint8_t *s, struct answer *a)
 {
     uint32_t changed = keep_memory();
-    const uint32_t refusal = gbasave_eeprom_write(&cart.record, cart.memory, cart.size, (uint16_t)number(s, 2), &changed);
+    const uint32_t refusal =
+        gbasave_eeprom_write(&cart.record, cart.memory, cart.size, cart.tallies, cart.tally_count, (uint16_t)number(s, 2), &changed);
     put_stored(a, refusal, changed);
 }
 
@@ -265,7 +306,8 @@ static void load(const uint8_t *s, struct answer *a)
     const uint32_t length = number(s, 3);
     make_file(length, s[3]);
     uint32_t changed = keep_memory();
-    const uint32_t refusal = gbasave_load_save(&cart.record, cart.memory, cart.size, file, length, &changed);
+    const uint32_t refusal =
+        gbasave_load_save(&cart.record, cart.memory, cart.size, cart.tallies, cart.tally_count, file, length, &changed);
     put_stored(a, refusal, changed);
 }
 
@@ -293,8 +335,11 @@ static void open_cartridge(const uint8_t *s, struct answer *a)
     make_image_of(s[0], length);
     memset(&cart, UNWRITTEN, sizeof cart);
     uint32_t refusal = gbasave_memory_size(s[0], &cart.size);
+    cart.tally_count = cart.size / GBASAVE_STRETCH_SIZE;
     if (refusal == 0)
-        refusal = gbasave_from_bytes(&cart.record, image, length, GBASAVE_PART_USUAL, cart.memory, cart.size);
+        refusal = gbasave_from_bytes(&cart.record, image, length, GBASAVE_PART_USUAL, cart.memory, cart.size, cart.tallies,
+                                     cart.tally_count);
+    cart.is_open = refusal == 0;
     put_status(a, refusal);
 }
 
@@ -319,9 +364,12 @@ static void size(const uint8_t *s, struct answer *a)
 /* Opens the image apart from the list's cartridge, with the file's buffer as its memory. */
 static uint32_t open_image(gbasave_record *record, uint32_t length)
 {
+    uint16_t tallies[GBASAVE_MAX_TALLIES];
     uint32_t bytes = NO_VALUE;
     const uint32_t refusal = gbasave_save_size(image, length, &bytes);
-    return refusal != 0 ? refusal : gbasave_from_bytes(record, image, length, GBASAVE_PART_USUAL, file, bytes);
+    if (refusal != 0)
+        return refusal;
+    return gbasave_from_bytes(record, image, length, GBASAVE_PART_USUAL, file, bytes, tallies, bytes / GBASAVE_STRETCH_SIZE);
 }
 
 /* One of several values. If its call is refused, the refusal is in the answer too, which then differs. */
@@ -442,9 +490,11 @@ static bool replay_line(unsigned long line, struct text text)
         return false;
     struct answer got = {"", 0};
     make_call(bytes, frame.count / 2, &got);
-    tally[bytes[0]].replayed++;
+    if (bytes[0] <= 0x0B && cart.is_open)
+        put_tallies(&got);
+    by_frame[bytes[0]].replayed++;
     if (got.count != expected.count || memcmp(got.digits, expected.at, got.count) != 0) {
-        tally[bytes[0]].differ++;
+        by_frame[bytes[0]].differ++;
         show(line, frame, expected, &got);
     }
     return true;
@@ -479,10 +529,10 @@ static int report(unsigned long lines)
 {
     unsigned long replayed = 0, differ = 0;
     for (unsigned i = 0; i < FRAMES; i++) {
-        if (tally[i].replayed != 0)
-            printf("answers: frame %02X, %lu replayed, %lu differ\n", i, tally[i].replayed, tally[i].differ);
-        replayed += tally[i].replayed;
-        differ += tally[i].differ;
+        if (by_frame[i].replayed != 0)
+            printf("answers: frame %02X, %lu replayed, %lu differ\n", i, by_frame[i].replayed, by_frame[i].differ);
+        replayed += by_frame[i].replayed;
+        differ += by_frame[i].differ;
     }
     printf("answers: %lu of %lu lines replayed through the C calls, %lu differ\n", replayed, lines, differ);
     return lines == 0 || replayed != lines || differ != 0;
@@ -491,10 +541,12 @@ static int report(unsigned long lines)
 int main(int argc, char **argv)
 {
     static char room[LIST_MAX];
-    faulty_count = argc == 4 && strcmp(argv[2], "--fault") == 0 && strcmp(argv[3], "count") == 0;
-    FILE *stream = argc == 2 || faulty_count ? fopen(argv[1], "rb") : NULL;
+    for (unsigned i = 0; argc == 4 && strcmp(argv[2], "--fault") == 0 && i < sizeof FAULT / sizeof *FAULT; i++)
+        if (strcmp(argv[3], FAULT[i]) == 0)
+            fault = i;
+    FILE *stream = argc == 2 || fault != NOTHING ? fopen(argv[1], "rb") : NULL;
     if (stream == NULL) {
-        fprintf(stderr, "usage: answers LIST [--fault count], where LIST is a file that can be read\n");
+        fprintf(stderr, "usage: answers LIST [--fault count | tallies | stretches], where LIST is a file that can be read\n");
         return 2;
     }
     const struct text list = {room, fread(room, 1, sizeof room, stream)};

@@ -1,19 +1,20 @@
 /*
- * Which question refuses which call: every call on a record, with records and memories around every limit, and every opening and ID word by
- * part and kind, held against document 01's "Questions at the door" and document 02's ticket 1 as written here. The original cannot be asked:
- * it has no such records, memories, destinations and parts. A refused call has to leave record, memory, destination and places as they were;
- * a refused opening makes the record zeros. ID mode has to show each part's word. An accepted call that stores has to write how many bytes of the
- * memory it changed, ticket 2's number. Searches in pieces, ticket 3's, are asked with matchers that are none and with such as no image leads to:
- * refused they have to leave matcher and places, else they have to step as written here. --fault NAME expects something wrong, which has to be found.
+ * Which question refuses which call: every call on a record, with records, memories and numbers of tallies around every limit, and every opening and
+ * ID word by part and kind, held against document 01's "Questions at the door" and document 02's tickets 1 and 4 as written here. The original cannot
+ * be asked: it has no such records, memories, tallies, destinations and parts. A refused call has to leave record, memory, tallies, destination and
+ * places as they were; a refused opening makes the record zeros. ID mode has to show each part's word. An accepted call that stores has to write how
+ * many bytes of the memory it changed, ticket 2's number, and to add its change to the tallies, ticket 4's, whatever they were. Searches in pieces,
+ * ticket 3's, are asked with matchers that are none and with such as no image leads to: refused they have to leave matcher and places, else they have
+ * to step as written here. --fault NAME expects something wrong, which has to be found.
  */
-#include "gbasave.h"
+#include "questions.h"
 
 #include <stdio.h>
 #include <string.h>
 
-enum { RECORD = GBASAVE_RECORD_SIZE, LONGEST = GBASAVE_MEMORY_MAX + 1, PLACE = 0x5EED5EED, CALLS = 15, KINDS = 6, PARTS = 6 };
+enum { CALLS = 17, PARTS = 6 };
 
-static const uint32_t SIZE[KINDS] = {0, 32768, 65536, 131072, 8192, 8192};
+const uint32_t SIZE[KINDS] = {0, 32768, 65536, 131072, 8192, 8192};
 
 /* "64K SST D4BFh, Macronix 1CC2h, Panasonic 1B32h; 128K Sanyo 1362h, Macronix 09C2h; or the usual one": of part 0, the usual one, size and word
    go by the kind. */
@@ -26,22 +27,19 @@ static const uint32_t ABOVE[] = {256, 257, 258, 259, 260, 261, 65536, 65538, 0x8
 enum { NUMBERS = 256 + sizeof ABOVE / sizeof *ABOVE };
 
 /* Lent to calls that are to be refused, and held against its copy at the end; and lent to calls that are to be accepted. */
-static uint8_t kept[LONGEST], copy[LONGEST], scratch[LONGEST], file[LONGEST];
-static uint8_t image[GBASAVE_IMAGE_MAX + 1];
+static uint8_t kept[LONGEST], copy[LONGEST], file[LONGEST];
+uint8_t scratch[LONGEST], before[LONGEST];
+uint16_t tallies[MOST_TALLIES + 1], expected[MOST_TALLIES + 1];
+uint8_t image[GBASAVE_IMAGE_MAX + 1];
 
 /* Like the file in its first 100 bytes only: imported after the file was loaded, 512 are kept and 412 change. */
 static uint8_t other_file[512];
 
-/* What scratch holds before a call on a record that stores. No other one changes it. */
-static uint8_t before[LONGEST];
+fault_name fault;
+static const char *const FAULT[] = {"nothing",  "count",  "records", "sizes",  "order", "words",   "maker",  "loads",     "refused",
+                                    "matchers", "finish", "late",    "opened", "reset", "tallies", "modulo", "stretches", "sum"};
 
-/* What is expected wrongly: a count of 64 in phase 3; records with a part that does not fit; a 128K part on Flash64; 15 asked before 3; two parts'
-   words swapped; the maker at odd addresses; every byte of the memory changed by a load; the number 0 of a refused call that stores; matchers whose
-   fourth byte is 2; 2 asked before 1 at the end of a search. */
-static enum { NOTHING, COUNT, RECORDS, SIZES, ORDER, WORDS, MAKER, LOADS, REFUSED, MATCHERS, FINISH } fault;
-static const char *const FAULT[] = {"nothing", "count", "records", "sizes", "order", "words", "maker", "loads", "refused", "matchers", "finish"};
-
-static unsigned long calls, by_number[16];
+unsigned long calls, by_number[REFUSALS];
 
 static uint32_t number(unsigned i)
 {
@@ -101,8 +99,7 @@ static int ask_words(void)
     return 0;
 }
 
-/* An image of a kind: zeros and the kind's marker. Returns its length, the least one. */
-static size_t make_image(unsigned kind)
+size_t make_image(unsigned kind)
 {
     static const char *const MARKER[KINDS] = {"", "SRAM_V", "FLASH_V", "FLASH1M_V", "EEPROM_V", "EEPROM_V"};
     memset(image, 0, 16);
@@ -121,8 +118,8 @@ static void fresh_record(uint8_t *r, size_t image_length, unsigned kind, uint32_
     r[GBASAVE_RECORD_PART] = (uint8_t)part;
 }
 
-/* 1, 3, and 15, "asked last at opening". */
-static uint32_t opening_no(unsigned kind, size_t image_length, uint32_t part, size_t memory)
+/* 1, 3, 16, "asked after 3", and 15, "asked last at opening". */
+static uint32_t opening_no(unsigned kind, size_t image_length, uint32_t part, size_t memory, size_t count)
 {
     if (image_length < 192 || image_length > 33554432)
         return 1;
@@ -130,20 +127,30 @@ static uint32_t opening_no(unsigned kind, size_t image_length, uint32_t part, si
         return 15;
     if (memory != SIZE[kind])
         return 3;
+    if (fault == LATE && !fits(part, kind))
+        return 15;
+    if (count != tallies_of(kind))
+        return 16;
     return fits(part, kind) ? 0 : 15;
 }
 
-static int ask_opening(unsigned kind, size_t image_length, uint32_t part, size_t memory)
+int ask_opening(unsigned kind, size_t image_length, uint32_t part, size_t memory, size_t count)
 {
-    const uint32_t no = opening_no(kind, image_length, part, memory);
+    const uint32_t no = opening_no(kind, image_length, part, memory, count);
     uint8_t *lent = no ? kept : scratch, left[RECORD] = {0};
     gbasave_record r;
     memset(r.bytes, 0xEE, RECORD);
-    memset(scratch, 0x5A, memory + 1 < LONGEST ? memory + 1 : LONGEST);
+    if (no == 0)
+        memset(scratch, 0x5A, memory + 1);
+    set_tallies(0x5A5A);
+    if (no ? fault == RESET : fault != OPENED)
+        memset(expected, 0, count * sizeof *expected);
     calls++;
     by_number[no]++;
-    if (gbasave_from_bytes(&r, image, image_length, part, lent, memory) != no)
+    if (gbasave_from_bytes(&r, image, image_length, part, lent, memory, tallies, count) != no)
         return wrong_part("opening, another number", part, kind, image_length, memory);
+    if (memcmp(tallies, expected, sizeof tallies) != 0)
+        return wrong_part("opening, other tallies", part, kind, image_length, memory);
     if (no == 0) {
         fresh_record(left, image_length, kind, part);
         for (size_t i = 0; i <= memory; i++)
@@ -155,19 +162,20 @@ static int ask_opening(unsigned kind, size_t image_length, uint32_t part, size_t
     return 0;
 }
 
-/* Every part number, with images too short, right and too long, and the right memory, one byte less or more, and another kind's. An Eeprom8k image
-   takes long to search: with a wrong memory it is opened with a few parts only. */
+/* Every part number, with images too short, right and too long; the right memory, one byte less or more, and another kind's; and as many tallies as
+   the kind has, one less or more. An Eeprom8k image takes long to search: with a wrong memory or wrong tallies it is opened with a few parts only. */
 static int ask_openings(unsigned first, unsigned last)
 {
     for (unsigned kind = first; kind <= last; kind++) {
-        const size_t right = make_image(kind), size = SIZE[kind];
+        const size_t right = make_image(kind), size = SIZE[kind], count = tallies_of(kind);
         const size_t length[] = {right, 191, 33554433}, memory[] = {size, size + 1, size ? size - 1 : 8192, size == 65536 ? 131072 : 65536};
+        const size_t number_of_tallies[] = {count, count + 1, count ? count - 1 : 32};
         for (unsigned p = 0; p < NUMBERS; p++)
             for (unsigned l = 0; l < 3; l++)
-                for (unsigned m = 0; m < 4; m++) {
+                for (unsigned m = 0; m < 4 * 3; m++) {
                     if (kind == GBASAVE_KIND_EEPROM8K && l == 0 && m > 0 && p > 6 && p != 255)
                         continue;
-                    if (ask_opening(kind, length[l], number(p), memory[m]))
+                    if (ask_opening(kind, length[l], number(p), memory[m % 4], number_of_tallies[m / 4]))
                         return 1;
                 }
     }
@@ -391,7 +399,7 @@ static int ask_starts(void)
     return 0;
 }
 
-static uint32_t random_below(uint32_t end)
+uint32_t random_below(uint32_t end)
 {
     static uint64_t state = 1;
     state = state * 6364136223846793005u + 1442695040888963407u;
@@ -461,14 +469,15 @@ static int ask_searches(void)
 
 /* ---- Calls on a record ------------------------------------------------------------------------------------------------------------ */
 
-/* The number of the first question to which the answer is no, or 0. */
-static uint32_t first_no(unsigned call, const uint8_t *r, size_t memory)
+static int stores(unsigned call)
+{
+    return call == 1 || call == 2 || call == 4 || (call >= 6 && call <= 8);
+}
+
+/* 4, 5, 13 and 14, which depend on what the call is. */
+static uint32_t own_no(unsigned call, const uint8_t *r)
 {
     const unsigned kind = r[GBASAVE_RECORD_KIND], phase = r[11], count = r[12];
-    if (!is_record(r))
-        return 2;
-    if (call < 9 && memory != SIZE[kind])
-        return 3;
     switch (call) {
     case 2: return kind < 4 ? 4 : 0;
     case 5: return kind == 0 ? 0 : 13; /* no file is so short as its destination */
@@ -479,46 +488,43 @@ static uint32_t first_no(unsigned call, const uint8_t *r, size_t memory)
     }
 }
 
-static uint32_t made(unsigned call, gbasave_record *r, uint8_t *memory, size_t length, uint8_t *bytes, uint32_t *place, uint32_t *changed)
+/* The number of the first question to which the answer is no, or 0. "16 when the lent tallies are not as many as the kind has, asked after 3." */
+static uint32_t first_no(unsigned call, const uint8_t *r, size_t memory, size_t count)
+{
+    const unsigned kind = r[GBASAVE_RECORD_KIND];
+    if (!is_record(r))
+        return 2;
+    if (call < 9 && memory != SIZE[kind])
+        return 3;
+    if (fault == LATE && own_no(call, r))
+        return own_no(call, r);
+    if ((stores(call) || call >= 15) && count != tallies_of(kind))
+        return 16;
+    return own_no(call, r);
+}
+
+uint32_t made(unsigned call, gbasave_record *r, uint8_t *memory, size_t length, size_t count, uint8_t *bytes, uint32_t *place, uint32_t *changed)
 {
     static const uint8_t state[GBASAVE_STATE_SIZE];
     switch (call) {
     case 0: return gbasave_save_read(r, memory, length, 0x1234, place);
-    case 1: return gbasave_save_write(r, memory, length, 0x1234, 0x12, changed);
-    case 2: return gbasave_eeprom_write(r, memory, length, 1, changed);
+    case 1: return gbasave_save_write(r, memory, length, tallies, count, 0x1234, 0x12, changed);
+    case 2: return gbasave_eeprom_write(r, memory, length, tallies, count, 1, changed);
     case 3: return gbasave_eeprom_read(r, memory, length, place);
-    case 4: return gbasave_load_save(r, memory, length, file, 600, changed);
+    case 4: return gbasave_load_save(r, memory, length, tallies, count, file, 600, changed);
     case 5: return gbasave_save_data(r, memory, length, bytes, 511, place);
-    case 6: return gbasave_load_save(r, memory, length, file, 512, changed);
-    case 7: return gbasave_import_save(r, memory, length, file, 100, place, changed);
-    case 8: return gbasave_import_save(r, memory, length, other_file, sizeof other_file, place, changed);
+    case 6: return gbasave_load_save(r, memory, length, tallies, count, file, 512, changed);
+    case 7: return gbasave_import_save(r, memory, length, tallies, count, file, 100, place, changed);
+    case 8: return gbasave_import_save(r, memory, length, tallies, count, other_file, sizeof other_file, place, changed);
     case 9: return gbasave_eeprom_begin_dma(r, 73);
     case 10: return gbasave_chip_state(r, bytes);
     case 11: return gbasave_take_save_dirty(r, place);
     case 12: return gbasave_uses_eeprom(r, place);
     case 13: return gbasave_eeprom_window_start(r, place);
-    default: return gbasave_restore_chip_state(r, state, sizeof state);
+    case 14: return gbasave_restore_chip_state(r, state, sizeof state);
+    case 15: return gbasave_is_blank(r, tallies, count, place);
+    default: return gbasave_first_in_use(r, tallies, count, place);
     }
-}
-
-static int stores(unsigned call)
-{
-    return call == 1 || call == 2 || call == 4 || (call >= 6 && call <= 8);
-}
-
-/* "the number of memory places whose value differs from before", of the whole memory. Pieces that are the same are passed over. */
-static uint32_t changed_bytes(size_t memory)
-{
-    uint32_t changed = 0;
-    for (size_t piece = 0; piece < memory; piece += 4096) {
-        const size_t length = memory - piece < 4096 ? memory - piece : 4096;
-        if (memcmp(before + piece, scratch + piece, length) == 0)
-            continue;
-        for (size_t i = piece; i < piece + length; i++)
-            changed += before[i] != scratch[i];
-        memcpy(before + piece, scratch + piece, length);
-    }
-    return changed;
 }
 
 /* What has to be in the place for the number after a call: a refused call leaves it, and so does one that is not given it. */
@@ -532,42 +538,47 @@ static uint32_t number_of(unsigned call, uint32_t no, size_t memory)
     return fault == LOADS && call == 4 ? (uint32_t)memory : changed;
 }
 
-static int wrong(const char *what, unsigned call, const uint8_t *r, size_t memory)
+static int wrong(const char *what, unsigned call, const uint8_t *r, size_t memory, size_t count)
 {
-    printf("questions: %s, call %u, memory %zu, record", what, call, memory);
+    printf("questions: %s, call %u, memory %zu, %zu tallies, record", what, call, memory, count);
     for (unsigned i = 0; i < RECORD; i++)
         printf(" %02X", r[i]);
     printf("\n");
     return 1;
 }
 
-static int ask(const uint8_t *given, size_t memory)
+int ask(const uint8_t *given, size_t memory, size_t count)
 {
     for (unsigned call = 0; call < CALLS; call++) {
         static uint8_t bytes[GBASAVE_STATE_SIZE + 511], untouched[sizeof bytes], destination[sizeof bytes];
         gbasave_record r;
         uint32_t place = PLACE, changed = PLACE;
         memcpy(r.bytes, given, RECORD);
-        const uint32_t no = first_no(call, given, memory);
+        const uint32_t no = first_no(call, given, memory, count);
         calls++;
         by_number[no]++;
-        if (made(call, &r, no ? kept : scratch, memory, no ? bytes : destination, &place, &changed) != no)
-            return wrong("another number", call, given, memory);
+        if (made(call, &r, no ? kept : scratch, memory, count, no ? bytes : destination, &place, &changed) != no)
+            return wrong("another number", call, given, memory, count);
         if (changed != number_of(call, no, memory))
-            return wrong("another number of changed bytes", call, given, memory);
+            return wrong("another number of changed bytes", call, given, memory, count);
+        if (memcmp(tallies, expected, sizeof tallies))
+            return wrong("other tallies", call, given, memory, count);
         if (no && (place != PLACE || memcmp(r.bytes, given, RECORD) || memcmp(bytes, untouched, sizeof bytes)))
-            return wrong("something is changed", call, given, memory);
+            return wrong("something is changed", call, given, memory, count);
         if (r.bytes[GBASAVE_RECORD_PART] != given[GBASAVE_RECORD_PART])
-            return wrong("the part is changed", call, given, memory);
+            return wrong("the part is changed", call, given, memory, count);
+        if (!no && ((call == 15 && place != blank_by_tallies(count)) || (call == 16 && place != first_by_tallies(count))))
+            return wrong("another answer from the tallies", call, given, memory, count);
     }
     return 0;
 }
 
-/* With the right memory, one byte less or more, and another kind's. */
+/* With the right memory, one byte less or more, and another kind's; with the right number of tallies, and one less or more. */
 static int ask_all(const uint8_t *given)
 {
-    const size_t size = given[4] < KINDS ? SIZE[given[4]] : 0;
-    return ask(given, size) || ask(given, size + 1) || ask(given, size ? size - 1 : 8192) || ask(given, size == 65536 ? 131072 : 65536);
+    const size_t size = given[4] < KINDS ? SIZE[given[4]] : 0, count = size / STRETCH, less = count ? count - 1 : 2;
+    return ask(given, size, count) || ask(given, size + 1, count) || ask(given, size ? size - 1 : 8192, less) ||
+           ask(given, size == 65536 ? 131072 : 65536, count) || ask(given, size, count + 1) || ask(given, size, less);
 }
 
 /* The record, and those around it. */
@@ -590,7 +601,8 @@ static int ask_near(const uint8_t *r)
                 memcpy(other, r, RECORD);
                 other[a] = NEAR[i / sizeof NEAR];
                 other[b < 16 ? b : GBASAVE_RECORD_PART] = NEAR[i % sizeof NEAR];
-                if (ask(other, other[4] < KINDS ? SIZE[other[4]] : 0))
+                const size_t size = other[4] < KINDS ? SIZE[other[4]] : 0;
+                if (ask(other, size, size / STRETCH))
                     return 1;
             }
     /* image lengths around both limits */
@@ -604,19 +616,30 @@ static int ask_near(const uint8_t *r)
     return 0;
 }
 
-/* Every kind with every part that fits it. */
+/* Records after byte 3: at rest; a flash command in bank 1 and ID mode; an address at each width; data; a read; large. */
+static const uint8_t BASE[][14] = {{0}, {0, 1, 4, 1, 1}, {0, 0, 0, 0, 0, 6, 0, 1, 5}, {0, 1, 0, 0, 0, 14, 1, 2, 13}, {0, 0, 0, 0, 0, 0, 1, 3, 63, 100}, {0, 0, 0, 0, 0, 14, 1, 6, 0, 255, 3, 67}, {0, 0, 8, 1, 0, 0, 1}};
+_Static_assert(sizeof BASE / sizeof *BASE == BASES, "the header says how many there are");
+
+void make_record(uint8_t *r, unsigned kind, unsigned part, size_t base)
+{
+    memset(r, 0, RECORD);
+    r[1] = 16;
+    memcpy(r + 4, BASE[base], sizeof *BASE);
+    r[GBASAVE_RECORD_KIND] = (uint8_t)kind;
+    r[GBASAVE_RECORD_PART] = (uint8_t)part;
+}
+
+/* Every kind with every part that fits it. The tallies begin with all bits 0, one less, and so on, and go on as the calls leave them. */
 static int ask_records(void)
 {
-    /* Records behind byte 3: at rest; a flash command in bank 1 and ID mode; an address at each width; data; a read; large. */
-    static const uint8_t BASE[][14] = {{0}, {0, 1, 4, 1, 1}, {0, 0, 0, 0, 0, 6, 0, 1, 5}, {0, 1, 0, 0, 0, 14, 1, 2, 13}, {0, 0, 0, 0, 0, 0, 1, 3, 63, 100}, {0, 0, 0, 0, 0, 14, 1, 6, 0, 255, 3, 67}, {0, 0, 8, 1, 0, 0, 1}};
     memcpy(before, scratch, LONGEST);
+    for (size_t i = 0; i <= MOST_TALLIES; i++)
+        tallies[i] = expected[i] = (uint16_t)(0 - i);
     for (unsigned kind = 0; kind < KINDS; kind++)
         for (unsigned part = 0; part < PARTS; part++)
-            for (size_t base = 0; base < sizeof BASE / sizeof *BASE && fits(part, kind); base++) {
-                uint8_t r[RECORD] = {0, 16};
-                memcpy(r + 4, BASE[base], sizeof *BASE);
-                r[GBASAVE_RECORD_KIND] = (uint8_t)kind;
-                r[GBASAVE_RECORD_PART] = (uint8_t)part;
+            for (size_t base = 0; base < BASES && fits(part, kind); base++) {
+                uint8_t r[RECORD];
+                make_record(r, kind, part, base);
                 if (ask_near(r))
                     return 1;
             }
@@ -629,15 +652,16 @@ int main(int argc, char **argv)
         if (strcmp(argv[2], FAULT[i]) == 0)
             fault = i;
     if (argc > 1 && fault == NOTHING) {
-        fprintf(stderr, "usage: questions [--fault count | records | sizes | order | words | maker | loads | refused | matchers | finish]\n");
+        fprintf(stderr, "usage: questions [--fault count | records | sizes | order | words | maker | loads | refused | matchers | finish | late |\n"
+                        "                           opened | reset | tallies | modulo | stretches | sum]\n");
         return 2;
     }
     for (size_t i = 0; i < LONGEST; i++)
         kept[i] = copy[i] = file[i] = (uint8_t)(i * 31 + i / 256);
     for (size_t i = 0; i < sizeof other_file; i++)
         other_file[i] = i < 100 ? file[i] : (uint8_t)~file[i];
-    if (ask_words() || ask_starts() || ask_matchers() || ask_pieces() || ask_searches() || read_bytes() ||
-        ask_openings(GBASAVE_KIND_NONE, GBASAVE_KIND_EEPROM512) || ask_records() ||
+    if (ask_words() || ask_starts() || ask_matchers() || ask_pieces() || ask_searches() || read_bytes() || ask_tallies() || ask_counts() ||
+        ask_lists() || ask_openings(GBASAVE_KIND_NONE, GBASAVE_KIND_EEPROM512) || ask_records() ||
         ask_openings(GBASAVE_KIND_EEPROM8K, GBASAVE_KIND_EEPROM8K))
         return 1;
     if (memcmp(kept, copy, LONGEST) != 0) {
@@ -645,7 +669,7 @@ int main(int argc, char **argv)
         return 1;
     }
     printf("questions: %lu calls, none wrong; accepted %lu", calls, by_number[0]);
-    for (unsigned n = 1; n < 16; n++)
+    for (unsigned n = 1; n < REFUSALS; n++)
         if (by_number[n])
             printf(", %u: %lu", n, by_number[n]);
     printf("\n");

@@ -2,14 +2,14 @@
  * gbasave.h: the backup chip of a Game Boy Advance cartridge (SRAM, flash, serial EEPROM), for console cores. For C11
  * and C++. The archive libgbasave.a is for x86-64 with the System V calling convention.
  *
- * WHAT IT IS. A set of calls that keep no state of their own. The image, the save memory, the record and the matcher
- * belong to the caller, who passes them to each call. No call uses them after it has returned. The archive allocates
- * nothing, opens no file and has no variables of its own. A call takes a few KiB of stack at most. The archive needs
- * three functions from outside: memcpy, memmove and memset. It may call them with length 0, and then with any pointer,
- * also NULL. Every call ends.
+ * WHAT IT IS. A set of calls that keep no state of their own. The image, the save memory, the tallies, the record and
+ * the matcher belong to the caller, who passes them to each call. No call uses them after it has returned. The archive
+ * allocates nothing, opens no file and has no variables of its own. A call takes a few KiB of stack at most. The
+ * archive needs three functions from outside: memcpy, memmove and memset. It may call them with length 0, and then with
+ * any pointer, also NULL. Every call ends.
  *
- * THE RECORD is 25 bytes. It holds all data of a cartridge except its image and its memory. It contains no pointer: it
- * may be copied, stored and moved like any other bytes. gbasave_from_bytes writes it.
+ * THE RECORD is 25 bytes. It holds all data of a cartridge except its image, its memory and the tallies of the memory.
+ * It contains no pointer: it may be copied, stored and moved like any other bytes. gbasave_from_bytes writes it.
  *
  *     bytes 0-3    the image's length, low byte first, 192 to 33,554,432
  *     byte  4      the kind, 0 to 5
@@ -36,13 +36,14 @@
  *
  * KINDS.
  *
- *     number and name              save memory       exported file
- *     0  GBASAVE_KIND_NONE               0 bytes     none
- *     1  GBASAVE_KIND_SRAM          32,768           the memory
- *     2  GBASAVE_KIND_FLASH64       65,536           the memory
- *     3  GBASAVE_KIND_FLASH128     131,072           the memory
- *     4  GBASAVE_KIND_EEPROM512      8,192           its first 512 bytes; the memory once the chip is known to be large
- *     5  GBASAVE_KIND_EEPROM8K       8,192           the same; this kind is large from the start
+ *     number and name            save memory       tallies   exported file
+ *     0  GBASAVE_KIND_NONE             0 bytes      0        none
+ *     1  GBASAVE_KIND_SRAM        32,768            8        the memory
+ *     2  GBASAVE_KIND_FLASH64     65,536           16        the memory
+ *     3  GBASAVE_KIND_FLASH128   131,072           32        the memory
+ *     4  GBASAVE_KIND_EEPROM512    8,192            2        its first 512 bytes; the memory once the chip is known to
+ *                                                            be large
+ *     5  GBASAVE_KIND_EEPROM8K     8,192            2        the same; this kind is large from the start
  *
  * PARTS. A part is a flash chip of one maker. A game can read the chip's ID word, and some games save only on chips
  * that they know. So gbasave_from_bytes takes the number of the part that the game is to find:
@@ -82,10 +83,11 @@
  *     13   Is the destination long enough for the output?
  *     14   Is the file's length one for this kind? (For kind NONE no length is.)
  *     15   Does the part have the kind's size? (The usual part fits every kind, a number above 5 none.)
+ *     16   Are the tallies as many as the kind has? (It is asked after 3, and before 4, 14 and 15.)
  *
- * A REFUSED CALL CHANGES NOTHING: the record, the matcher, the memory, the destination, the state and every
- * out-parameter keep their values. The one exception is gbasave_from_bytes: if it is refused it writes 25 zeros to the
- * record.
+ * A REFUSED CALL CHANGES NOTHING: the record, the matcher, the memory, the tallies, the destination, the state and
+ * every out-parameter keep their values. The one exception is gbasave_from_bytes: if it is refused it writes 25 zeros
+ * to the record.
  *
  * CHANGED BYTES. Four calls store: gbasave_save_write, gbasave_eeprom_write, gbasave_load_save and gbasave_import_save.
  * Each writes to *changed how many bytes of the memory have another value after the call than before it:
@@ -103,32 +105,64 @@
  * Loads, imports and byte writes to an EEPROM kind have a number, and leave the flag as it was. Opening has no number.
  * The sum says when to write out the file; the flag says at the end whether there is anything left to write out.
  *
+ * TALLIES. A save menu can show "empty" without a reading of the memory. A stretch is 4,096 bytes of the memory:
+ * stretch 0 is the first 4,096 bytes, stretch 1 the next, and so on. A byte is in use if it is not FFh. For each
+ * stretch the caller keeps a tally beside the memory, a uint16_t: how many bytes of the stretch are in use. The tally
+ * of stretch 0 comes first. The number of tallies is the memory's length / GBASAVE_STRETCH_SIZE, as the table at KINDS
+ * has it; it is at most GBASAVE_MAX_TALLIES. Opening and the four calls that store are passed the tallies:
+ *
+ *   - gbasave_from_bytes sets every tally to 0. Every byte of the memory is then FFh.
+ *   - A call that stores adds its change to each tally: the tally becomes (tally + bytes of its stretch in use after
+ *     the call - bytes of its stretch in use before it) modulo 65,536.
+ *   - A refused call leaves the tallies, and so does a refused opening.
+ *
+ * No other call changes the memory. gbasave_is_blank and gbasave_first_in_use answer from the record and the tallies
+ * alone. It is proved that both answers are those of a reading of the whole memory, after an accepted opening and every
+ * list of eleven calls, refused ones included: the ten calls that WHAT IS PROVED OF STATES names, with byte writes to
+ * EEPROM kinds, and gbasave_restore_chip_state with any bytes. For this, each call has to get the record, the memory
+ * and the tallies as the last call left them, and nothing else may write to them. (Only the changed flag may be set: no
+ * store depends on it.) Kind NONE has no tallies, and is blank.
+ *
+ * The answers are about the whole memory. If an EEPROM is not large, the exported file is only a part of it. The rest
+ * is blank, unless a byte write or a restored state has stored something there.
+ *
+ * FOREIGN TALLIES. No call sees whether the numbers passed are those of the memory. Any numbers are changed in the same
+ * way. Only the two answers depend on them: they are then about the tallies, and not about the memory. Nothing else
+ * goes wrong. A store adds only its change, so a tally that is wrong stays wrong by the same number, modulo 65,536. A
+ * caller that has lost the tallies, or has written to the memory itself, gets right ones in one of two ways:
+ *   - It counts them: in each stretch, the bytes that are not FFh.
+ *   - It takes a state, opens the cartridge again and resumes the state. Opening sets the tallies to 0, and the load
+ *     adds what it stores. So a state need not contain tallies.
+ * Load and restore on an open cartridge keep right tallies right.
+ *
  * WHAT THE CALLER HAS TO ENSURE, in every call. A buffer is a pointer and a length in bytes. (For the state of
- * gbasave_chip_state the length is 18.)
+ * gbasave_chip_state the length is 18. Tallies are a buffer whose length is how many there are.)
  *   - No pointer is NULL, except that of a buffer whose length is 0. Such a pointer may be any pointer, also NULL, as
  *     an empty std::vector has it. Nothing is read or written through it.
- *   - No two of the objects passed to one call overlap: no two of record, matcher, image, header, piece, memory, file,
- *     state, destination and out-parameters.
+ *   - No two of the objects passed to one call overlap: no two of record, matcher, image, header, piece, memory,
+ *     tallies, file, state, destination and out-parameters.
  *   - A buffer is as long as its length says, and it can be written to if its pointer is not to const.
  *   - While the call runs, nothing else writes to the objects passed to it, or reads one that the call writes to.
- * Only out-parameters need an alignment, that of uint32_t. The calls check everything else: a buffer may hold any
- * bytes, and any length and any number may be passed.
+ * Only tallies and out-parameters need an alignment, that of uint16_t and that of uint32_t. The calls check everything
+ * else: a buffer may hold any bytes, and any length and any number may be passed.
  *
- * THREADS. Calls share nothing. Any number of threads may call at the same time, each with its own record and memory,
- * or its own matcher. They may all pass the same image.
+ * THREADS. Calls share nothing. Any number of threads may call at the same time, each with its own record, memory and
+ * tallies, or its own matcher. They may all pass the same image.
  *
  * TIME. gbasave_from_bytes, gbasave_detect_save_type, gbasave_search, gbasave_save_fit and gbasave_save_size search the
  * image. They hand its bytes to a matcher, from the front and each at most once, and stop after the first SRAM_V. They
  * hand over none if the game code decides. gbasave_rom_crc goes through the whole image, gbasave_crc_feed through its
  * piece, gbasave_matcher_feed through its piece up to the first SRAM_V. gbasave_load_save, gbasave_import_save,
  * gbasave_save_data and the erasing of a flash chip go through the memory, the erasing of a sector through its 4,096
- * bytes. The time of every other call does not grow with the size of any of these.
+ * bytes. gbasave_is_blank and gbasave_first_in_use go through the tallies, 32 at most. The time of every other call
+ * does not grow with the size of any of these.
  *
  * TO PLAY.
  *   1. Compare gbasave_version() with GBASAVE_VERSION_NUMBER. If they differ, the archive belongs to another header.
  *   2. Call gbasave_save_size to learn how much memory the image needs.
- *   3. Pass a memory of that size to gbasave_from_bytes, and the part: GBASAVE_PART_USUAL, unless the game is known to
- *      look for another flash chip. No call finds the part in the image.
+ *   3. Pass a memory of that size to gbasave_from_bytes, size / GBASAVE_STRETCH_SIZE tallies, and the part:
+ *      GBASAVE_PART_USUAL, unless the game is known to look for another flash chip. No call finds the part in the
+ *      image.
  *   4. Load the player's file, if there is one, with gbasave_import_save. A footer of 16 bytes is not loaded, and no
  *      exported file has one. If later files are to have the footer, keep it and append it to them.
  *   5. Pass on the game's accesses. Bytes at 0E000000h to 0E00FFFFh go to gbasave_save_read and gbasave_save_write. On
@@ -139,6 +173,8 @@
  *   6. From time to time, and at the end, call gbasave_take_save_dirty. If it sets *flag to 1, write out the file from
  *      gbasave_save_data. A host with a budget does so when the sum of *changed has reached it, and at the end. It
  *      starts the sum at 0 after step 4 and whenever the file is written out.
+ *   7. To show "empty" in a save menu, call gbasave_is_blank. To show where a save begins, call gbasave_first_in_use.
+ *      Both need only the record and the tallies.
  *
  * TO TAKE A STATE, keep:
  *   - the file from gbasave_save_data, if there is one (*length is not 0);
@@ -146,9 +182,9 @@
  *   - what identifies the cartridge: the kind and the image's length (both in the record), and gbasave_rom_crc of the
  *     image. Compute the CRC once, when the image is opened;
  *   - the part with which the cartridge was opened (the record's byte GBASAVE_RECORD_PART).
- * The file and the 18 bytes do not say to which cartridge they belong, nor with which part it was opened.
- * gbasave_load_save and gbasave_restore_chip_state accept those of another cartridge, also of another kind or part, and
- * overwrite its save. Only the caller can prevent this.
+ * The tallies need not be kept. The file and the 18 bytes do not say to which cartridge they belong, nor with which
+ * part it was opened. gbasave_load_save and gbasave_restore_chip_state accept those of another cartridge, also of
+ * another kind or part, and overwrite its save. Only the caller can prevent this.
  *
  * TO RESUME A STATE, in this process or in another:
  *   1. Compare the kind, the image's length and the CRC with those of the cartridge that is to go on. If one of them
@@ -156,8 +192,8 @@
  *      the part differs, stop, or open the cartridge again with the state's part: with another part the game may find
  *      another chip than before. Check also that the file is complete: the load takes a file of any length.
  *   2. If that cartridge is not open, open it with gbasave_from_bytes and the state's part. If it is open with that
- *      part, keep its record and its memory: opening it again makes no difference except to the flag, and takes the
- *      time of a search of the image.
+ *      part, keep its record, its memory and its tallies: opening it again makes no difference except to the flag, and
+ *      takes the time of a search of the image. (Foreign tallies would stay foreign: open it again, or count them.)
  *   3. Pass the 18 bytes to gbasave_restore_chip_state. If they are refused, stop: the cartridge is unchanged.
  *   4. If there is a file, pass it to gbasave_load_save, and set the record's byte GBASAVE_RECORD_FLAG, the changed
  *      flag, to 1.
@@ -188,8 +224,8 @@ extern "C" {
 #endif
 
 /* The version of this header and of its archive, as a text and as a number: major * 10000 + minor * 100 + patch. */
-#define GBASAVE_VERSION "0.5.0"
-#define GBASAVE_VERSION_NUMBER 500
+#define GBASAVE_VERSION "0.6.0"
+#define GBASAVE_VERSION_NUMBER 600
 
 /* Sizes in bytes. */
 #define GBASAVE_RECORD_SIZE 25
@@ -208,6 +244,11 @@ extern "C" {
 #define GBASAVE_MEMORY_EEPROM512 8192
 #define GBASAVE_MEMORY_EEPROM8K 8192
 #define GBASAVE_MEMORY_MAX 131072
+
+/* Tallies: a kind has its memory's size / GBASAVE_STRETCH_SIZE of them. */
+#define GBASAVE_STRETCH_SIZE 4096
+#define GBASAVE_MAX_TALLIES 32
+#define GBASAVE_NONE_IN_USE 0xFFFFFFFF /* from gbasave_first_in_use: no stretch is in use */
 
 typedef enum gbasave_kind {
     GBASAVE_KIND_NONE = 0,
@@ -243,7 +284,8 @@ typedef enum gbasave_refusal {
     GBASAVE_REFUSED_STATE_COUNT = 12,
     GBASAVE_REFUSED_DESTINATION_LENGTH = 13,
     GBASAVE_REFUSED_FILE_LENGTH = 14,
-    GBASAVE_REFUSED_PART = 15
+    GBASAVE_REFUSED_PART = 15,
+    GBASAVE_REFUSED_TALLY_COUNT = 16
 } gbasave_refusal;
 
 /* Returns a short text for the return value of a call. */
@@ -266,6 +308,7 @@ static inline const char *gbasave_refusal_text(uint32_t answer)
     case GBASAVE_REFUSED_DESTINATION_LENGTH: return "the destination is too short";
     case GBASAVE_REFUSED_FILE_LENGTH: return "no file of this kind has this length";
     case GBASAVE_REFUSED_PART: return "the part does not have the kind's size";
+    case GBASAVE_REFUSED_TALLY_COUNT: return "the tallies are not as many as the kind has";
     default: return "no call returns this number";
     }
 }
@@ -306,7 +349,8 @@ typedef struct gbasave_matcher {
  *   Asks:    the numbers of its questions, in the order in which it asks them. "1 (lower bound)" is question 1 without
  *            its upper bound: does the image have at least 192 bytes?
  *   Writes:  what it writes to out-parameters and to destinations.
- *   Changes: what it changes in the record, in the matcher and in the memory. A call without this line changes none.
+ *   Changes: what it changes in the record, in the matcher, in the memory and in the tallies. A call without this line
+ *            changes none.
  * A call writes and changes nothing else.
  */
 
@@ -342,9 +386,9 @@ uint32_t gbasave_detect_save_type(const uint8_t *image, size_t image_length, uin
 uint32_t gbasave_search(const uint8_t *image, size_t image_length, uint32_t *kind, uint32_t *handed);
 
 /*
- * Gets the size of the save memory of the image's kind: the length of the memory to pass to gbasave_from_bytes. It is
- * also the largest size that gbasave_save_fit keeps. The size is 0 for an image below 192 bytes. An image above
- * 33,554,432 bytes is treated like any other.
+ * Gets the size of the save memory of the image's kind: the length of the memory to pass to gbasave_from_bytes, with
+ * size / GBASAVE_STRETCH_SIZE tallies. It is also the largest size that gbasave_save_fit keeps. The size is 0 for an
+ * image below 192 bytes. An image above 33,554,432 bytes is treated like any other.
  *   Asks:    nothing, and returns 0.
  *   Writes:  *size.
  */
@@ -485,15 +529,15 @@ uint32_t gbasave_id_word(uint32_t part, uint32_t kind, uint32_t *word);
 /*
  * Opens a cartridge: finds the image's kind as gbasave_detect_save_type does, and erases the memory. The image is not
  * kept; the record holds only its length. The part is a number of the table at PARTS.
- *   Asks:    1, 3 (for the image's kind), 15 (for the image's kind)
+ *   Asks:    1, then for the image's kind: 3, 16, 15
  *   Changes: record, whatever it held before: image length, kind and part; flag 0; chip record 0, except that large is
- *            1 for EEPROM8K. memory: every byte becomes FFh.
- *   Refused: The record becomes 25 zeros, which are not a valid record. The memory keeps its bytes. A cartridge whose
- *            record is passed here is lost if the call is refused. To keep it, pass a second record, and copy it over
- *            the first if the call is accepted.
+ *            1 for EEPROM8K. memory: every byte becomes FFh. tallies: each becomes 0.
+ *   Refused: The record becomes 25 zeros, which are not a valid record. The memory and the tallies keep their values.
+ *            A cartridge whose record is passed here is lost if the call is refused. To keep it, pass a second record,
+ *            and copy it over the first if the call is accepted.
  */
 uint32_t gbasave_from_bytes(gbasave_record *record, const uint8_t *image, size_t image_length, uint32_t part,
-                            uint8_t *memory, size_t memory_length);
+                            uint8_t *memory, size_t memory_length, uint16_t *tallies, size_t tally_count);
 
 /* ---- Bytes: SRAM and flash --------------------------------------------------------------------------------------- */
 
@@ -517,12 +561,13 @@ uint32_t gbasave_save_read(const gbasave_record *record, const uint8_t *memory, 
  *   EEPROM:  Both kinds store the byte, and the flag keeps its value. Games have no use for this, and a state may lose
  *            the byte.
  *
- *   Asks:    2, 3
+ *   Asks:    2, 3, 16
  *   Writes:  *changed: how many bytes of the memory have changed (see CHANGED BYTES). 0 if nothing is stored.
- *   Changes: record (flag; flash state, bank and ID mode) and memory, as above.
+ *   Changes: record (flag; flash state, bank and ID mode) and memory, as above; tallies (see TALLIES): that of the
+ *            byte's or the sector's stretch, or all of them if the chip is erased.
  */
-uint32_t gbasave_save_write(gbasave_record *record, uint8_t *memory, size_t memory_length, uint32_t address,
-                            uint8_t value, uint32_t *changed);
+uint32_t gbasave_save_write(gbasave_record *record, uint8_t *memory, size_t memory_length, uint16_t *tallies,
+                            size_t tally_count, uint32_t address, uint8_t value, uint32_t *changed);
 
 /* ---- Serial bits: EEPROM ----------------------------------------------------------------------------------------- */
 
@@ -555,12 +600,13 @@ uint32_t gbasave_eeprom_begin_dma(gbasave_record *record, uint32_t words);
  * data and an end bit. A read command is the bits 1 1, the address and an end bit. Numbers come highest bit first. The
  * last bit of data stores the block's eight bytes and sets the flag to 1. After a read command gbasave_eeprom_read
  * gives 68 bits. If a bit is written before all 68 are read, it ends the read and begins a command.
- *   Asks:    2, 3, 4
+ *   Asks:    2, 3, 16, 4
  *   Writes:  *changed: how many of the block's bytes have changed, 0 to 8. 0 for every bit but the last one of data.
- *   Changes: record (flag, chip record) and, with the last bit of data, eight bytes of memory.
+ *   Changes: record (flag, chip record) and, with the last bit of data, eight bytes of memory and the tally of the
+ *            block's stretch.
  */
-uint32_t gbasave_eeprom_write(gbasave_record *record, uint8_t *memory, size_t memory_length, uint16_t value,
-                              uint32_t *changed);
+uint32_t gbasave_eeprom_write(gbasave_record *record, uint8_t *memory, size_t memory_length, uint16_t *tallies,
+                              size_t tally_count, uint16_t value, uint32_t *changed);
 
 /*
  * Reads one bit. After a read command: 0 four times, then the block's 64 bits, highest first. If the kind has no
@@ -586,24 +632,25 @@ uint32_t gbasave_save_data(const gbasave_record *record, const uint8_t *memory, 
 /*
  * Imports a player's file, if its length is one that gbasave_save_fit takes for the kind. What is kept of the
  * file, without a footer, is loaded as gbasave_load_save does it. A footer is the file's last 16 bytes; it is not kept.
- *   Asks:    2, 3, 14
+ *   Asks:    2, 3, 16, 14
  *   Writes:  *kept: how many of the file's bytes were loaded. *changed: how many bytes of the memory have changed.
- *   Changes: memory; record (large). The flag and the part keep their values.
+ *   Changes: memory; tallies; record (large). The flag and the part keep their values.
  */
-uint32_t gbasave_import_save(gbasave_record *record, uint8_t *memory, size_t memory_length, const uint8_t *file,
-                             size_t file_length, uint32_t *kept, uint32_t *changed);
+uint32_t gbasave_import_save(gbasave_record *record, uint8_t *memory, size_t memory_length, uint16_t *tallies,
+                             size_t tally_count, const uint8_t *file, size_t file_length, uint32_t *kept,
+                             uint32_t *changed);
 
 /*
  * Loads a file of any length, to resume a state. Every byte of the memory becomes FFh; then the file's first bytes are
  * written to its beginning, as many as there is room for. On EEPROM kinds a file longer than 512 bytes makes the chip
  * large. For kind NONE nothing happens.
- *   Asks:    2, 3
+ *   Asks:    2, 3, 16
  *   Writes:  *changed: how many bytes of the memory have changed. Loading what is there gives 0, loading 0 bytes gives
  *            the number of bytes that were not FFh.
- *   Changes: memory; record (large). The flag and the part keep their values.
+ *   Changes: memory; tallies; record (large). The flag and the part keep their values.
  */
-uint32_t gbasave_load_save(gbasave_record *record, uint8_t *memory, size_t memory_length, const uint8_t *file,
-                           size_t file_length, uint32_t *changed);
+uint32_t gbasave_load_save(gbasave_record *record, uint8_t *memory, size_t memory_length, uint16_t *tallies,
+                           size_t tally_count, const uint8_t *file, size_t file_length, uint32_t *changed);
 
 /*
  * Reads the changed flag and clears it. The flag is 1 if a write has stored anything since the flag was last taken,
@@ -614,6 +661,26 @@ uint32_t gbasave_load_save(gbasave_record *record, uint8_t *memory, size_t memor
  *   Changes: record: flag 0.
  */
 uint32_t gbasave_take_save_dirty(gbasave_record *record, uint32_t *flag);
+
+/* ---- Stretches in use -------------------------------------------------------------------------------------------- */
+
+/*
+ * Tells whether the memory is blank: whether its every byte is FFh. It looks at the tallies in place of the memory (see
+ * TALLIES).
+ *   Asks:    2, 16
+ *   Writes:  *blank: 1 if every tally is 0, or if there are none; otherwise 0.
+ */
+uint32_t gbasave_is_blank(const gbasave_record *record, const uint16_t *tallies, size_t tally_count, uint32_t *blank);
+
+/*
+ * Finds the first stretch of the memory that is in use. It looks at the tallies in place of the memory (see TALLIES).
+ *   Asks:    2, 16
+ *   Writes:  *stretch: the number of the first stretch, from 0, whose tally is not 0. The stretch begins at byte
+ *            *stretch * GBASAVE_STRETCH_SIZE of the memory. If every tally is 0, or if there are none:
+ *            GBASAVE_NONE_IN_USE, which is no stretch's number.
+ */
+uint32_t gbasave_first_in_use(const gbasave_record *record, const uint16_t *tallies, size_t tally_count,
+                              uint32_t *stretch);
 
 /* ---- States ------------------------------------------------------------------------------------------------------ */
 

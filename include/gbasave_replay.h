@@ -34,7 +34,8 @@
  * WHAT RUNS. A replay does not run the calls of gbasave.h. It runs functions of the same repository that take a record
  * as a value and return it. Each does what the call of gbasave.h does that is named above: both have contracts over the
  * same definitions, and from the chip's step down they are the same code. What only the calls of gbasave.h have is not
- * run: reading a record's 25 bytes, writing them back, and the fast paths.
+ * run: reading a record's 25 bytes, writing them back, and the fast paths. A replay has tallies of its own, which no
+ * answer shows. A caller that goes on with the memory that it leaves counts them (see FOREIGN TALLIES in gbasave.h).
  *
  * IT IS PROVED that the output is the same as that of the list without its cuts, with every part, wherever the cuts are
  * and however many there are. About lists of the calls of gbasave.h themselves, with cuts made of them, the same is a

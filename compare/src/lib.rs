@@ -7,6 +7,7 @@ pub mod images;
 pub mod items;
 pub mod kind;
 pub mod lists;
+pub mod memory;
 pub mod original;
 pub mod played;
 pub mod random;

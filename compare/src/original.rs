@@ -1,6 +1,7 @@
 //! The original module, its text unchanged, behind plain functions that are never inlined.
 
 use crate::kind::{self, Kind};
+use crate::memory;
 use crate::records::Chip;
 
 pub mod cart {
@@ -76,6 +77,18 @@ pub fn load_save(cart: &mut Cartridge, file: &[u8]) {
 #[inline(never)]
 pub fn save_data(cart: &Cartridge) -> Option<Vec<u8>> {
     cart.save_data()
+}
+
+/// The module has no such call: who wants to know reads the memory.
+#[inline(never)]
+pub fn is_blank(cart: &Cartridge) -> bool {
+    memory::first_in_use(cart.memory()).is_none()
+}
+
+/// Nor this one.
+#[inline(never)]
+pub fn first_in_use(cart: &Cartridge) -> Option<usize> {
+    memory::first_in_use(cart.memory())
 }
 
 #[inline(never)]

@@ -79,9 +79,7 @@ static void block_numbers(void)
 
 static stored load(cartridge *cart, const uint8_t *file, size_t length)
 {
-    uint32_t changed;
-    accepted("load", gbasave_load_save(&cart->record, cart->memory, cart->length, file, length, &changed));
-    return with_flag(cart, changed);
+    return with_flag(cart, cartridge_load(cart, file, length));
 }
 
 static void file_numbers(void)
@@ -101,7 +99,8 @@ static void refused_number(void)
 {
     cartridge cart = opened("SRAM NUMBERS", "SRAM_V");
     uint32_t changed = write_byte(&cart, SAVE_PLACE, 0x5A);
-    const uint32_t answer = gbasave_eeprom_write(&cart.record, cart.memory, cart.length, 1, &changed);
+    const uint32_t answer =
+        gbasave_eeprom_write(&cart.record, cart.memory, cart.length, cart.tallies, cart.tally_count, 1, &changed);
     expect("a bit to SRAM", answer == GBASAVE_REFUSED_NO_EEPROM);
     printf("  %-24s none: the out-parameter still has the %" PRIu32 " of the byte before\n", "a refused bit", changed);
     expect("a refused bit writes no number", changed == 1);
@@ -196,8 +195,8 @@ static void next_session(host *h)
 {
     uint32_t kept, changed;
     cartridge *cart = &h->cart;
-    accepted("import",
-             gbasave_import_save(&cart->record, cart->memory, cart->length, h->card, cart->length, &kept, &changed));
+    accepted("import", gbasave_import_save(&cart->record, cart->memory, cart->length, cart->tallies, cart->tally_count,
+                                           h->card, cart->length, &kept, &changed));
     h->unwritten = 0;
     printf("  %-24s %" PRIu32 " changed by the import, 0 not written out\n", "the next session", changed);
     expect("the save's bytes change", kept == cart->length && changed == SAVE_BYTES);

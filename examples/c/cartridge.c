@@ -26,7 +26,9 @@ uint32_t cartridge_open(cartridge *cart, const uint8_t *image, size_t image_leng
     accepted("the memory's size", gbasave_save_size(image, image_length, &size));
     cart->memory = allocate(size);
     cart->length = size;
-    uint32_t answer = gbasave_from_bytes(&cart->record, image, image_length, part, cart->memory, cart->length);
+    cart->tally_count = size / GBASAVE_STRETCH_SIZE;
+    uint32_t answer = gbasave_from_bytes(&cart->record, image, image_length, part, cart->memory, cart->length,
+                                         cart->tallies, cart->tally_count);
     if (answer != GBASAVE_ACCEPTED) {
         cartridge_close(cart);
         return answer;
@@ -50,6 +52,24 @@ bool cartridge_take_changed(cartridge *cart)
     uint32_t flag;
     accepted("flag", gbasave_take_save_dirty(&cart->record, &flag));
     return flag == 1;
+}
+
+uint32_t cartridge_load(cartridge *cart, const uint8_t *file, size_t length)
+{
+    uint32_t changed;
+    accepted("load", gbasave_load_save(&cart->record, cart->memory, cart->length, cart->tallies, cart->tally_count, file,
+                                       length, &changed));
+    return changed;
+}
+
+void cartridge_count_tallies(cartridge *cart)
+{
+    for (size_t stretch = 0; stretch < cart->tally_count; stretch++) {
+        const uint8_t *bytes = cart->memory + stretch * GBASAVE_STRETCH_SIZE;
+        cart->tallies[stretch] = 0;
+        for (size_t i = 0; i < GBASAVE_STRETCH_SIZE; i++)
+            cart->tallies[stretch] += bytes[i] != 0xFF;
+    }
 }
 
 saved_state take_state(const cartridge *cart)
@@ -85,7 +105,7 @@ uint32_t cartridge_resume(cartridge *cart, const saved_state *state, uint32_t *c
         return answer;
     *changed = 0;
     if (state->length > 0) {
-        accepted("load", gbasave_load_save(&cart->record, cart->memory, cart->length, state->file, state->length, changed));
+        *changed = cartridge_load(cart, state->file, state->length);
         cart->record.bytes[GBASAVE_RECORD_FLAG] = 1;
     }
     return gbasave_restore_chip_state(&cart->record, state->chip, sizeof state->chip);

@@ -1,4 +1,4 @@
-/* A cartridge with its memory, and its states, as a console core would have them. */
+/* A cartridge with its memory and tallies, and its states, as a console core would have them. */
 #ifndef CARTRIDGE_H
 #define CARTRIDGE_H
 
@@ -17,10 +17,12 @@ typedef struct cartridge {
     gbasave_record record;
     uint8_t *memory;
     size_t length; /* of the memory */
+    uint16_t tallies[GBASAVE_MAX_TALLIES];
+    size_t tally_count;
     identity id;
 } cartridge;
 
-/* All that a state keeps of a cartridge, and the cartridge that it belongs to. */
+/* All that a state keeps of a cartridge, and the cartridge that it belongs to. The tallies are not kept. */
 typedef struct saved_state {
     identity id;
     uint8_t chip[GBASAVE_STATE_SIZE];
@@ -46,6 +48,12 @@ void cartridge_close(cartridge *cart);
 
 /* Returns whether the file has to be written out, and clears the changed flag. */
 bool cartridge_take_changed(cartridge *cart);
+
+/* Loads a file of any length. Returns how many bytes of the memory have changed. */
+uint32_t cartridge_load(cartridge *cart, const uint8_t *file, size_t length);
+
+/* Counts the tallies again, after they were lost or something else has written to the memory. */
+void cartridge_count_tallies(cartridge *cart);
 
 saved_state take_state(const cartridge *cart);
 void drop_state(saved_state *state);

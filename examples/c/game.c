@@ -28,7 +28,8 @@ uint8_t read_byte(const cartridge *cart, uint32_t address)
 uint32_t write_byte(cartridge *cart, uint32_t address, uint8_t value)
 {
     uint32_t changed;
-    accepted("byte write", gbasave_save_write(&cart->record, cart->memory, cart->length, address, value, &changed));
+    accepted("byte write", gbasave_save_write(&cart->record, cart->memory, cart->length, cart->tallies, cart->tally_count,
+                                              address, value, &changed));
     return changed;
 }
 
@@ -104,7 +105,8 @@ uint32_t eeprom_send(cartridge *cart, const uint8_t *bits, int count)
     uint32_t sum = 0;
     for (int i = 0; i < count; i++) {
         uint32_t changed;
-        accepted("bit in", gbasave_eeprom_write(&cart->record, cart->memory, cart->length, bits[i], &changed));
+        accepted("bit in", gbasave_eeprom_write(&cart->record, cart->memory, cart->length, cart->tallies,
+                                                cart->tally_count, bits[i], &changed));
         sum += changed;
     }
     return sum;

@@ -1,8 +1,8 @@
 /*
  * A small host. It opens images, saves on every chip, takes states in the middle of an 81-bit write and resumes them in a
  * fresh cartridge and in the open one. It gives a game the flash chip that the game looks for. It writes the file out when
- * enough bytes have changed. It finds the kind of images that it reads in blocks. It checks every answer; a wrong one ends
- * the program with status 1.
+ * enough bytes have changed. It shows in a save menu which cartridges are empty. It finds the kind of images that it reads
+ * in blocks. It checks every answer; a wrong one ends the program with status 1.
  *
  *     host           runs the examples below, on images that the program makes
  *     host IMAGE     prints what is found in an image file
@@ -10,6 +10,7 @@
 #include "budget.h"
 #include "check.h"
 #include "game.h"
+#include "menu.h"
 #include "parts.h"
 #include "pieces.h"
 #include "refusals.h"
@@ -82,8 +83,8 @@ static void sram_story(void)
     accepted("export", gbasave_save_data(&cart.record, cart.memory, cart.length, file, cart.length, &length));
     memset(file + length, 0xEE, FOOTER);
     accepted("opening", cartridge_open(&other, image, IMAGE_LENGTH, GBASAVE_PART_USUAL));
-    accepted("import",
-             gbasave_import_save(&other.record, other.memory, other.length, file, length + FOOTER, &kept, &changed));
+    accepted("import", gbasave_import_save(&other.record, other.memory, other.length, other.tallies, other.tally_count,
+                                           file, length + FOOTER, &kept, &changed));
     printf("  a file of %" PRIu32 " bytes is imported elsewhere, %" PRIu32 " kept, %" PRIu32 " changed\n", length + FOOTER,
            kept, changed);
     same("the other memory", other.memory, cart.memory, cart.length);
@@ -230,6 +231,7 @@ int main(int argc, char **argv)
     state_story();
     part_story();
     budget_story();
+    menu_story();
     piece_story();
     refusals();
     empty_slices();

@@ -6,6 +6,7 @@ mod calls;
 mod images;
 mod link;
 mod placed;
+mod stretches;
 pub mod table;
 
 use crate::part_image;
@@ -35,6 +36,7 @@ pub fn rows(wanted: &str) {
     calls::rows();
     images::rows();
     bytes::rows();
+    stretches::rows();
 }
 
 /// A row of calls, each given a number of its own.
@@ -61,6 +63,15 @@ fn row(name: &str, units: u32, mut original: impl FnMut(), mut part: impl FnMut(
     }
 }
 
+/// Such a row of calls that came with a version. A part from before it comes to the row, and has no turns.
+fn row_since(version: u32, name: &str, units: u32, original: impl FnMut(), part: impl FnMut()) {
+    if part_image::version() >= version {
+        row(name, units, original, part);
+    } else {
+        long_row(name, 0, original, part);
+    }
+}
+
 /// A row of one piece of work, which takes longer than a round.
 fn long_row(name: &str, row_turns: u32, original: impl FnMut(), part: impl FnMut()) {
     if is_wanted(name) {
@@ -68,7 +79,7 @@ fn long_row(name: &str, row_turns: u32, original: impl FnMut(), part: impl FnMut
     }
 }
 
-/// Such a row of calls that came with a version. A part from before it comes to the row, and has no turns.
+/// Such a row of calls that came with a version.
 fn long_row_since(version: u32, name: &str, original: impl FnMut(), part: impl FnMut()) {
     let row_turns = if part_image::version() >= version { LONG_TURNS } else { 0 };
     long_row(name, row_turns, original, part);

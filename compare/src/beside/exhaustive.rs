@@ -4,3 +4,4 @@ pub mod files;
 pub mod flash;
 pub mod records;
 pub mod serial;
+pub mod stretches;

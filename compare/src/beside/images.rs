@@ -3,7 +3,7 @@
 mod crcs;
 mod searches;
 
-use crate::abi::{RECORD_SIZE, USUAL_PART};
+use crate::abi::{NONE_IN_USE, RECORD_SIZE, USUAL_PART};
 use crate::part::Part;
 use crate::part_image as part;
 use crate::run::Run;
@@ -137,6 +137,11 @@ fn opening(run: &mut Run, image: &[u8]) {
         ));
     }
     same(run, "memory_size", cart.memory().len() as u32, part::memory_size(kind));
+    if part.tallies().iter().any(|tally| *tally != 0) {
+        run.differ(&format!("from_bytes: the tallies are {:?}", part.tallies()));
+    }
+    same(run, "is_blank", 1, part.is_blank());
+    same(run, "first_in_use", NONE_IN_USE, part.first_in_use());
     same(run, "uses_eeprom", rust::uses_eeprom(&cart).into(), part.uses_eeprom());
     same(run, "eeprom_window_start", rust::eeprom_window_start(&cart), part.eeprom_window_start());
     if kind == kind::NONE {

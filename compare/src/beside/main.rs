@@ -12,13 +12,14 @@ mod part_image;
 mod random_lists;
 mod run;
 mod side;
+mod watched;
 
 use compare::images::of_kind;
 use compare::kind;
 use pair::Pair;
 use run::{Fault, Run};
 
-const USAGE: &str = "usage: beside [--seed HEX] [--fault rust | part | replay | count | pieces | handed]
+const USAGE: &str = "usage: beside [--seed HEX] [--fault rust | part | replay | count | pieces | handed | tallies | stretches]
        beside bench WORDS LINK... [--before LINK...]
        beside rows WORDS";
 
@@ -59,6 +60,8 @@ fn arguments(words: &[&str]) -> Run {
             ["--fault", "count"] => fault = Fault::Count,
             ["--fault", "pieces"] => fault = Fault::Pieces,
             ["--fault", "handed"] => fault = Fault::Handed,
+            ["--fault", "tallies"] => fault = Fault::Tallies,
+            ["--fault", "stretches"] => fault = Fault::Stretches,
             _ => usage(),
         }
     }
@@ -76,6 +79,7 @@ fn cartridges(run: &mut Run, kind: kind::Kind) {
     run.at(format!("{name}, opening"));
     let pair = &mut Pair::open(&of_kind(kind), run);
     on_a_small_stack(|| exhaustive::files::compare(pair));
+    exhaustive::stretches::compare(pair);
     exhaustive::records::compare(pair);
     if kind::is_flash(kind) {
         exhaustive::flash::compare(pair);

@@ -1,11 +1,13 @@
 //! A cartridge on both sides. After every call answer, chip record, flag, save memory and exported file are compared. The original does not
-//! tell how many bytes a call changed: after every call that stores, its memory is compared with a copy from before, byte by byte.
+//! tell how many bytes a call changed, and has no tallies: after every call that stores, its memory is compared with a copy from before, byte by byte, and
+//! what has changed is counted.
 
-use crate::abi::{CHIP, PART, USUAL_PART};
+use crate::abi::{CHIP, NONE_IN_USE, PART, USUAL_PART};
 use crate::original::Original;
 use crate::part::Part;
 use crate::run::{Fault, Run};
 use crate::side::{Answer, Side};
+use crate::watched::Watched;
 use compare::call::Call;
 use compare::files;
 use compare::kind::{Kind, MEMORY, NAMES, SRAM};
@@ -13,6 +15,8 @@ use compare::original as rust;
 use compare::records::{hex, Chip};
 
 const RECENT: usize = 12;
+/// Calls between two counts of all stretches.
+const COUNT: u64 = 256;
 
 pub struct Pair<'a> {
     run: &'a mut Run,
@@ -25,8 +29,7 @@ pub struct Pair<'a> {
     /// The lengths that import takes, with what it keeps of them.
     fits: Vec<(u32, usize)>,
     recent: [Option<Call>; RECENT],
-    /// The original's memory after the last call that stores. No other call changes it; if one did, the next count would show it.
-    before: Vec<u8>,
+    watched: Watched,
 }
 
 impl<'a> Pair<'a> {
@@ -37,10 +40,10 @@ impl<'a> Pair<'a> {
         let [a, b, c, d] = (image.len() as u32).to_le_bytes();
         let kept = |length: u32| rust::save_fit(image, length as usize).map(|kept| (length, kept));
         let mut pair = Self {
+            watched: Watched::new(cart.memory(), run.fault),
             run,
             kind,
             fresh: rust::chip_state(&cart),
-            before: cart.memory().to_vec(),
             original: Original::new(cart),
             part,
             identity: [a, b, c, d, kind],
@@ -105,13 +108,13 @@ impl<'a> Pair<'a> {
     pub fn import(&mut self, (length, kept): (u32, usize), seed: u8) {
         let file = files::file(length, seed);
         let mut answers = [self.original.import(&file, kept), self.part.import(&file, kept)];
-        answers[0] = answers[0].with_changed(count(&mut self.before, self.original.memory()));
+        answers[0] = answers[0].with_changed(self.watched.changed(self.original.memory()));
         self.compare(answers, || format!("import of {length} bytes with seed {seed}"));
     }
 
     /// How many bytes of the original's memory the call changed, or with the fault one wrong number.
     fn changed(&mut self, call: &Call) -> u32 {
-        let changed = count(&mut self.before, self.original.memory());
+        let changed = self.watched.changed(self.original.memory());
         match (self.run.fault, call) {
             (Fault::Count, Call::Write(..)) if self.kind == SRAM => 1,
             _ => changed,
@@ -145,6 +148,9 @@ impl<'a> Pair<'a> {
 
     fn compare(&mut self, answers: [Answer; 2], call: impl FnOnce() -> String) {
         self.run.calls += 1;
+        if self.run.calls % COUNT == 0 {
+            self.watched.count(self.original.memory());
+        }
         if let Some(difference) = self.difference(answers) {
             let before: Vec<String> = self.recent.iter().flatten().map(Call::frame).collect();
             self.run.differ(&format!("{}: {difference}\n  the last calls: {}", call(), before.join(" ")));
@@ -170,6 +176,9 @@ impl<'a> Pair<'a> {
         if self.original.memory() != self.part.memory() {
             return Some(places("save memory", self.original.memory(), self.part.memory()));
         }
+        if let Some(difference) = self.other_tallies() {
+            return Some(difference);
+        }
         match (self.original.export(), self.part.export()) {
             (None, None) => None,
             (Some(original), Some(part)) if original == part => None,
@@ -177,20 +186,24 @@ impl<'a> Pair<'a> {
             (original, _) => Some(format!("a file from the {} alone", if original.is_some() { "original" } else { "part" })),
         }
     }
-}
 
-/// How many bytes of a memory are others than before; `before` then has them too. It looks at the whole memory. Most calls leave most of it, and equal
-/// bytes are compared many at a time.
-fn count(before: &mut [u8], memory: &[u8]) -> u32 {
-    const PIECE: usize = 4096;
-    let mut changed = 0;
-    for (before, now) in before.chunks_mut(PIECE).zip(memory.chunks(PIECE)) {
-        if before != now {
-            changed += before.iter().zip(now).filter(|(before, now)| before != now).count();
-            before.copy_from_slice(now);
+    /// The part's tallies, and its two answers from them, beside what is in the original's memory.
+    fn other_tallies(&self) -> Option<String> {
+        let (original, part) = (self.watched.tallies(), self.part.tallies());
+        if original != part {
+            return Some(format!(
+                "the stretches of the original have {original:?} bytes in use; the part's tallies are {part:?}"
+            ));
         }
+        let first = self.watched.first_in_use();
+        let expected = [u32::from(first.is_none()), first.map_or(NONE_IN_USE, |stretch| stretch as u32)].map(Answer::value);
+        let answers = [self.part.is_blank(), self.part.first_in_use()];
+        let names = ["is it blank", "the first stretch in use"];
+        let mut all = names.into_iter().zip(expected).zip(answers);
+        all.find(|((_, expected), answer)| expected != answer).map(|((name, expected), answer)| {
+            format!("{name}: in the original's memory it is {expected}; the part's answer is {answer}")
+        })
     }
-    changed as u32
 }
 
 /// Where two pieces of bytes first differ.

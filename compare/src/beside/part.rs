@@ -3,11 +3,13 @@
 use crate::abi::*;
 use crate::side::{Answer, Side};
 use compare::call::Call;
+use compare::memory::STRETCH;
 use compare::records::Chip;
 
 pub struct Part {
     record: Record,
     memory: Vec<u8>,
+    tallies: Vec<u16>,
     file: Vec<u8>,
 }
 
@@ -40,16 +42,21 @@ impl Part {
         Self::open_with(image, USUAL_PART, length)
     }
 
-    /// Opens an image with a flash part. Record and memory hold bytes that opening leaves nowhere.
+    /// Opens an image with a flash part. Record, memory and tallies hold what opening leaves nowhere.
     pub fn open_with(image: &[u8], flash_part: u32, length: usize) -> (Answer, Self) {
-        let (mut record, mut memory) = ([0xEE; RECORD_SIZE], vec![0x5A; length]);
-        let to = memory.as_mut_ptr();
-        let refusal = unsafe { gbasave_from_bytes(&mut record, image.as_ptr(), image.len(), flash_part, to, length) };
-        (Answer::refusal(refusal), Self { record, memory, file: vec![0; length] })
+        let (mut record, mut memory, mut tallies) = ([0xEE; RECORD_SIZE], vec![0x5A; length], vec![0x5A5A; length / STRETCH]);
+        let (from, size) = (image.as_ptr(), image.len());
+        let (to, counts, count) = (memory.as_mut_ptr(), tallies.as_mut_ptr(), tallies.len());
+        let refusal = unsafe { gbasave_from_bytes(&mut record, from, size, flash_part, to, length, counts, count) };
+        (Answer::refusal(refusal), Self { record, memory, tallies, file: vec![0; length] })
     }
 
     pub fn record(&self) -> &Record {
         &self.record
+    }
+
+    pub fn tallies(&self) -> &[u16] {
+        &self.tallies
     }
 
     pub fn save_read(&self, address: u32) -> Answer {
@@ -58,8 +65,11 @@ impl Part {
 
     pub fn save_write(&mut self, address: u32, value: u8) -> Answer {
         let (memory, length) = (self.memory.as_mut_ptr(), self.memory.len());
+        let (tallies, count) = (self.tallies.as_mut_ptr(), self.tallies.len());
         stored(|changed| {
-            Answer::refusal(unsafe { gbasave_save_write(&mut self.record, memory, length, address, value, changed) })
+            Answer::refusal(unsafe {
+                gbasave_save_write(&mut self.record, memory, length, tallies, count, address, value, changed)
+            })
         })
     }
 
@@ -69,7 +79,10 @@ impl Part {
 
     pub fn eeprom_write(&mut self, value: u16) -> Answer {
         let (memory, length) = (self.memory.as_mut_ptr(), self.memory.len());
-        stored(|changed| Answer::refusal(unsafe { gbasave_eeprom_write(&mut self.record, memory, length, value, changed) }))
+        let (tallies, count) = (self.tallies.as_mut_ptr(), self.tallies.len());
+        stored(|changed| {
+            Answer::refusal(unsafe { gbasave_eeprom_write(&mut self.record, memory, length, tallies, count, value, changed) })
+        })
     }
 
     pub fn eeprom_read(&mut self) -> Answer {
@@ -79,15 +92,21 @@ impl Part {
 
     pub fn load_save(&mut self, file: &[u8]) -> Answer {
         let (memory, length) = (self.memory.as_mut_ptr(), self.memory.len());
+        let (tallies, count) = (self.tallies.as_mut_ptr(), self.tallies.len());
         let (from, size) = (file.as_ptr(), file.len());
-        stored(|changed| Answer::refusal(unsafe { gbasave_load_save(&mut self.record, memory, length, from, size, changed) }))
+        stored(|changed| {
+            Answer::refusal(unsafe { gbasave_load_save(&mut self.record, memory, length, tallies, count, from, size, changed) })
+        })
     }
 
     pub fn import_save(&mut self, file: &[u8]) -> Answer {
         let (memory, length) = (self.memory.as_mut_ptr(), self.memory.len());
+        let (tallies, count) = (self.tallies.as_mut_ptr(), self.tallies.len());
         let (from, size) = (file.as_ptr(), file.len());
         stored(|changed| {
-            answer(|kept| unsafe { gbasave_import_save(&mut self.record, memory, length, from, size, kept, changed) })
+            answer(|kept| unsafe {
+                gbasave_import_save(&mut self.record, memory, length, tallies, count, from, size, kept, changed)
+            })
         })
     }
 
@@ -107,6 +126,16 @@ impl Part {
             file.set_len(written as usize);
         }
         file
+    }
+
+    pub fn is_blank(&self) -> Answer {
+        let (tallies, count) = (self.tallies.as_ptr(), self.tallies.len());
+        answer(|blank| unsafe { gbasave_is_blank(&self.record, tallies, count, blank) })
+    }
+
+    pub fn first_in_use(&self) -> Answer {
+        let (tallies, count) = (self.tallies.as_ptr(), self.tallies.len());
+        answer(|stretch| unsafe { gbasave_first_in_use(&self.record, tallies, count, stretch) })
     }
 
     pub fn take_save_dirty(&mut self) -> Answer {

@@ -18,6 +18,10 @@ pub enum Fault {
     Pieces,
     /// The whole image is handed to the matcher, also if there is an SRAM_V in it.
     Handed,
+    /// Every byte that a store changes counts as one more in use, also if it was in use before.
+    Tallies,
+    /// Stretches are numbered from 1.
+    Stretches,
 }
 
 impl Fault {

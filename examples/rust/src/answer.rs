@@ -17,7 +17,7 @@ pub fn value(call: impl FnOnce(&mut u32) -> u32) -> Result<u32, Refusal> {
     Ok(value)
 }
 
-/// Returns the value of a call that cannot be refused, since the cartridge owns its record and its memory.
+/// Returns the value of a call that cannot be refused, since the cartridge owns its record, its memory and its tallies.
 pub fn sound<T>(answer: Result<T, Refusal>) -> T {
-    answer.expect("record and memory are the cartridge's own")
+    answer.expect("record, memory and tallies are the cartridge's own")
 }

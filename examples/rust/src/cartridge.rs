@@ -3,10 +3,12 @@
 use std::fmt;
 
 use crate::answer::{accepted, sound, value};
-use crate::raw::{self, Record, RECORD_FLAG, RECORD_IMAGE_LENGTH, RECORD_KIND, RECORD_PART, RECORD_SIZE, STATE_SIZE};
+use crate::raw::{self, Record, NONE_IN_USE, RECORD_FLAG, RECORD_IMAGE_LENGTH, RECORD_KIND, RECORD_PART, RECORD_SIZE};
+use crate::raw::{STATE_SIZE, STRETCH_SIZE};
 use crate::{rom_crc, save_size, ChipState, Identity, Kind, Part, Refusal};
 
-/// A cartridge's backup chip: save memory and record. The cartridge owns both, so no call can get the wrong ones.
+/// A cartridge's backup chip: save memory, tallies of the memory, and record. The cartridge owns them all, so no call can get the
+/// wrong ones, and the tallies are always those of the memory.
 ///
 /// A method that stores returns how many bytes of the save memory have another value than before. A host with a write-back budget
 /// adds these numbers up, and writes out the file when the sum reaches the budget. The number does not replace the changed flag:
@@ -15,6 +17,8 @@ use crate::{rom_crc, save_size, ChipState, Identity, Kind, Part, Refusal};
 pub struct Cartridge {
     record: Record,
     memory: Vec<u8>,
+    /// For each stretch of the memory, how many of its bytes are not FFh.
+    tallies: Vec<u16>,
     image_crc: u32,
 }
 
@@ -38,11 +42,12 @@ impl Cartridge {
     /// part does not have the size of the image's kind.
     pub fn open_with_part(image: &[u8], part: Part) -> Result<Self, Refusal> {
         let image_crc = rom_crc(image)?;
-        let mut cart = Self { record: [0; RECORD_SIZE], memory: vec![0; save_size(image)], image_crc };
-        let (memory, length) = (cart.memory.as_mut_ptr(), cart.memory.len());
-        accepted(unsafe {
-            raw::gbasave_from_bytes(&mut cart.record, image.as_ptr(), image.len(), part.number(), memory, length)
-        })?;
+        let size = save_size(image);
+        let mut cart =
+            Self { record: [0; RECORD_SIZE], memory: vec![0; size], tallies: vec![0; size / STRETCH_SIZE], image_crc };
+        let (memory, tallies, count) = (cart.memory.as_mut_ptr(), cart.tallies.as_mut_ptr(), cart.tallies.len());
+        let (from, length, part) = (image.as_ptr(), image.len(), part.number());
+        accepted(unsafe { raw::gbasave_from_bytes(&mut cart.record, from, length, part, memory, size, tallies, count) })?;
         Ok(cart)
     }
 
@@ -82,8 +87,10 @@ impl Cartridge {
     /// memory have changed: 1 at most, unless a sector or the whole chip is erased.
     pub fn save_write(&mut self, address: u32, byte: u8) -> usize {
         let (memory, length) = (self.memory.as_mut_ptr(), self.memory.len());
-        sound(value(|changed| unsafe { raw::gbasave_save_write(&mut self.record, memory, length, address, byte, changed) }))
-            as usize
+        let (tallies, count) = (self.tallies.as_mut_ptr(), self.tallies.len());
+        sound(value(|changed| unsafe {
+            raw::gbasave_save_write(&mut self.record, memory, length, tallies, count, address, byte, changed)
+        })) as usize
     }
 
     /// Returns whether the game's halfwords in the EEPROM's window are for this cartridge.
@@ -105,8 +112,10 @@ impl Cartridge {
     /// with every other bit. Refused: [`Refusal::NoEeprom`].
     pub fn eeprom_write(&mut self, halfword: u16) -> Result<usize, Refusal> {
         let (memory, length) = (self.memory.as_mut_ptr(), self.memory.len());
-        let changed =
-            value(|changed| unsafe { raw::gbasave_eeprom_write(&mut self.record, memory, length, halfword, changed) })?;
+        let (tallies, count) = (self.tallies.as_mut_ptr(), self.tallies.len());
+        let changed = value(|changed| unsafe {
+            raw::gbasave_eeprom_write(&mut self.record, memory, length, tallies, count, halfword, changed)
+        })?;
         Ok(changed as usize)
     }
 
@@ -129,9 +138,11 @@ impl Cartridge {
     /// 16 bytes is not kept; a caller that wants it in later files appends it to them. Refused: [`Refusal::FileLength`].
     pub fn import_save(&mut self, file: &[u8]) -> Result<Imported, Refusal> {
         let (memory, length) = (self.memory.as_mut_ptr(), self.memory.len());
+        let (tallies, count) = (self.tallies.as_mut_ptr(), self.tallies.len());
+        let (from, size) = (file.as_ptr(), file.len());
         let mut changed = 0;
         let kept = value(|kept| unsafe {
-            raw::gbasave_import_save(&mut self.record, memory, length, file.as_ptr(), file.len(), kept, &mut changed)
+            raw::gbasave_import_save(&mut self.record, memory, length, tallies, count, from, size, kept, &mut changed)
         })?;
         Ok(Imported { kept: kept as usize, changed: changed as usize })
     }
@@ -140,9 +151,26 @@ impl Cartridge {
     /// the memory have changed: 0 if it holds the same bytes as before.
     pub fn load_save(&mut self, file: &[u8]) -> usize {
         let (memory, length) = (self.memory.as_mut_ptr(), self.memory.len());
+        let (tallies, count) = (self.tallies.as_mut_ptr(), self.tallies.len());
+        let (from, size) = (file.as_ptr(), file.len());
         sound(value(|changed| unsafe {
-            raw::gbasave_load_save(&mut self.record, memory, length, file.as_ptr(), file.len(), changed)
+            raw::gbasave_load_save(&mut self.record, memory, length, tallies, count, from, size, changed)
         })) as usize
+    }
+
+    /// Returns whether every byte of the memory is FFh, without a reading of the memory. A save menu shows such a cartridge as
+    /// empty. A cartridge without a backup chip is blank.
+    pub fn is_blank(&self) -> bool {
+        let (tallies, count) = (self.tallies.as_ptr(), self.tallies.len());
+        sound(value(|blank| unsafe { raw::gbasave_is_blank(&self.record, tallies, count, blank) })) == 1
+    }
+
+    /// Returns the number, from 0, of the first stretch of the memory that has a byte other than FFh, without a reading of the
+    /// memory. A stretch is [`STRETCH_SIZE`] bytes. `None` means that the memory is blank.
+    pub fn first_in_use(&self) -> Option<usize> {
+        let (tallies, count) = (self.tallies.as_ptr(), self.tallies.len());
+        let stretch = sound(value(|stretch| unsafe { raw::gbasave_first_in_use(&self.record, tallies, count, stretch) }));
+        (stretch != NONE_IN_USE).then_some(stretch as usize)
     }
 
     /// Returns the changed flag and clears it: whether a write has stored anything, even what was there already, or a state with a

@@ -1,8 +1,9 @@
 //! The backup chip of a Game Boy Advance cartridge (SRAM, flash, serial EEPROM): a safe wrapper of the calls in `gbasave.h`.
 //! The comments there say in full what each call does.
 //!
-//! A [`Cartridge`] owns its save memory and its record. The image is borrowed only when the cartridge is opened. So the
-//! refusals about record and memory cannot occur on a cartridge, and a call that has no other refusals does not return a `Result`.
+//! A [`Cartridge`] owns its save memory, the tallies of that memory, and its record. The image is borrowed only when the cartridge
+//! is opened. So the refusals about record, memory and tallies cannot occur on a cartridge, and a call that has no other refusals
+//! does not return a `Result`.
 //!
 //! ```
 //! use gbasave::{Cartridge, Kind};
@@ -44,6 +45,21 @@
 //!     // Write out the file.
 //!     unwritten = 0;
 //! }
+//! # Ok::<(), gbasave::Refusal>(())
+//! ```
+//!
+//! A save menu shows "empty" without a reading of the memory:
+//!
+//! ```
+//! # use gbasave::{Cartridge, STRETCH_SIZE};
+//! # let mut image = vec![0; 1024];
+//! # image[512..518].copy_from_slice(b"SRAM_V");
+//! let mut cart = Cartridge::open(&image)?;
+//! assert!(cart.is_blank());
+//! cart.save_write(0x0E00_2010, 0x5A);
+//! assert_eq!(cart.first_in_use(), Some(0x2010 / STRETCH_SIZE));
+//! cart.save_write(0x0E00_2010, 0xFF);
+//! assert_eq!((cart.is_blank(), cart.first_in_use()), (true, None));
 //! # Ok::<(), gbasave::Refusal>(())
 //! ```
 //!
@@ -103,6 +119,7 @@ pub use image::{detect_save_type, header_checksum, read, read16, read32, rom_crc
 pub use kind::Kind;
 pub use matcher::Matcher;
 pub use part::Part;
+pub use raw::STRETCH_SIZE;
 pub use refusal::Refusal;
 pub use state::{ChipState, Identity, NotResumed, State};
 pub use version::{version, VERSION};

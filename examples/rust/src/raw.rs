@@ -9,6 +9,10 @@ pub const RECORD_SIZE: usize = 25;
 pub const MATCHER_SIZE: usize = 13;
 pub const STATE_SIZE: usize = 18;
 pub const TITLE_SIZE: usize = 36;
+/// The size of a stretch of the save memory in bytes.
+pub const STRETCH_SIZE: usize = 4096;
+/// What `gbasave_first_in_use` writes if no stretch is in use.
+pub const NONE_IN_USE: u32 = u32::MAX;
 
 /// The length of the image in the record, low byte first.
 pub const RECORD_IMAGE_LENGTH: Range<usize> = 0..4;
@@ -62,12 +66,16 @@ extern "C" {
         part: u32,
         memory: *mut u8,
         memory_length: usize,
+        tallies: *mut u16,
+        tally_count: usize,
     ) -> u32;
     pub fn gbasave_save_read(record: &Record, memory: *const u8, memory_length: usize, address: u32, value: &mut u32) -> u32;
     pub fn gbasave_save_write(
         record: &mut Record,
         memory: *mut u8,
         memory_length: usize,
+        tallies: *mut u16,
+        tally_count: usize,
         address: u32,
         value: u8,
         changed: &mut u32,
@@ -79,6 +87,8 @@ extern "C" {
         record: &mut Record,
         memory: *mut u8,
         memory_length: usize,
+        tallies: *mut u16,
+        tally_count: usize,
         value: u16,
         changed: &mut u32,
     ) -> u32;
@@ -95,6 +105,8 @@ extern "C" {
         record: &mut Record,
         memory: *mut u8,
         memory_length: usize,
+        tallies: *mut u16,
+        tally_count: usize,
         file: *const u8,
         file_length: usize,
         kept: &mut u32,
@@ -104,11 +116,37 @@ extern "C" {
         record: &mut Record,
         memory: *mut u8,
         memory_length: usize,
+        tallies: *mut u16,
+        tally_count: usize,
         file: *const u8,
         file_length: usize,
         changed: &mut u32,
     ) -> u32;
     pub fn gbasave_take_save_dirty(record: &mut Record, flag: &mut u32) -> u32;
+    pub fn gbasave_is_blank(record: &Record, tallies: *const u16, tally_count: usize, blank: &mut u32) -> u32;
+    pub fn gbasave_first_in_use(record: &Record, tallies: *const u16, tally_count: usize, stretch: &mut u32) -> u32;
     pub fn gbasave_chip_state(record: &Record, state: &mut [u8; STATE_SIZE]) -> u32;
     pub fn gbasave_restore_chip_state(record: &mut Record, state: *const u8, state_length: usize) -> u32;
+}
+
+#[cfg(test)]
+mod tests {
+    use super::*;
+
+    const HEADER: &str = include_str!(env!("GBASAVE_HEADER"));
+
+    #[test]
+    fn sizes_are_the_headers() {
+        for (name, size) in [
+            ("RECORD_SIZE", RECORD_SIZE.to_string()),
+            ("MATCHER_SIZE", MATCHER_SIZE.to_string()),
+            ("STATE_SIZE", STATE_SIZE.to_string()),
+            ("TITLE_SIZE", TITLE_SIZE.to_string()),
+            ("STRETCH_SIZE", STRETCH_SIZE.to_string()),
+            ("NONE_IN_USE", format!("{NONE_IN_USE:#X}")),
+        ] {
+            let defined = format!("#define GBASAVE_{name} {size}");
+            assert!(HEADER.lines().any(|line| line.split(" /*").next().unwrap().trim() == defined), "{defined}");
+        }
+    }
 }

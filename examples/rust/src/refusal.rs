@@ -36,11 +36,13 @@ pub enum Refusal {
     FileLength,
     /// The part does not have the kind's size.
     Part,
+    /// The tallies are not as many as the kind has.
+    TallyCount,
 }
 
 impl Refusal {
     /// All refusals, in the order of their numbers.
-    pub const ALL: [Self; 15] = [
+    pub const ALL: [Self; 16] = [
         Self::ImageLength,
         Self::Record,
         Self::MemoryLength,
@@ -56,6 +58,7 @@ impl Refusal {
         Self::DestinationLength,
         Self::FileLength,
         Self::Part,
+        Self::TallyCount,
     ];
 
     /// Returns the refusal's number in `gbasave.h`.
@@ -63,7 +66,7 @@ impl Refusal {
         self as u32
     }
 
-    /// Returns the refusal with this number, 1 to 15.
+    /// Returns the refusal with this number, 1 to 16.
     pub fn of(number: u32) -> Option<Self> {
         Self::ALL.into_iter().find(|refusal| refusal.number() == number)
     }
@@ -86,6 +89,7 @@ impl Refusal {
             Self::DestinationLength => "the destination is too short",
             Self::FileLength => "no file of this kind has this length",
             Self::Part => "the part does not have the kind's size",
+            Self::TallyCount => "the tallies are not as many as the kind has",
         }
     }
 }
@@ -125,6 +129,6 @@ mod tests {
                 format!("{refusal:?}").to_lowercase()
             );
         }
-        assert_eq!((Refusal::of(0), Refusal::of(16)), (None, None));
+        assert_eq!((Refusal::of(0), Refusal::of(17)), (None, None));
     }
 }

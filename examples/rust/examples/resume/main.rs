@@ -1,9 +1,11 @@
 //! A small host. It opens images, saves on every chip, takes states in the middle of an 81-bit write and resumes them in a fresh
 //! cartridge and in the open one. It gives a game the flash chip that the game looks for. It writes the file out when enough bytes
-//! have changed. It finds the kind of images that it reads in blocks. A wrong answer ends the program.
+//! have changed. It shows in a save menu which cartridges are empty. It finds the kind of images that it reads in blocks. A wrong
+//! answer ends the program.
 
 mod budget;
 mod game;
+mod menu;
 mod parts;
 mod pieces;
 mod refusals;
@@ -167,6 +169,7 @@ fn main() -> Result<(), Box<dyn Error>> {
     states::shown()?;
     parts::shown()?;
     budget::shown()?;
+    menu::shown()?;
     pieces::shown()?;
     Ok(refusals::shown()?)
 }

@@ -1,4 +1,4 @@
-//! Every refusal that can occur when a cartridge owns its record and its memory.
+//! Every refusal that can occur when a cartridge owns its record, its memory and its tallies.
 
 use crate::game::{self, image, WRITE_BITS};
 use gbasave::{Cartridge, Part, Refusal};

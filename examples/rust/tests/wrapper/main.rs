@@ -10,6 +10,7 @@ mod matchers;
 mod parts;
 mod serial;
 mod states;
+mod tallies;
 
 use gbasave::Kind;
 
