@@ -15,6 +15,7 @@ use Rattle.cart.proofs.Restore.{state-bytes}
 use Rattle.cart.proofs.Flag.{flag-kept}
 use Rattle.cart.proofs.Parts.{part-kept}
 use Rattle.cart.proofs.Counts.{counts}
+use Rattle.cart.proofs.Stretches.{stretches}
 use Rattle.cart.proofs.Cases.{cases-hold}
 use Rattle.cart.proofs.CutRuns.{cut-runs}
 use Rattle.cart.proofs.Resume.{resumes}
@@ -58,6 +59,7 @@ claims =
         flagKept = flag-kept;
         partKept = part-kept;
         counts = counts;
+        stretches = stretches;
         thinCall = thin-call;
         recordAndBytes = record-and-bytes;
         largestKept = largest-kept;

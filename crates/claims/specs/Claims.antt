@@ -18,6 +18,7 @@ use Rattle.cart.specs.declared.ChipRecord.{ChipRecord}
 use Rattle.cart.specs.Gbatek.{SramClaim, FlashClaim, SerialBitsClaim, SerialClaim, UsableStates}
 use Rattle.cart.specs.Claims.{StateBytes, FlagKept, PartKept}
 use Rattle.cart.specs.Counts.{Counts}
+use Rattle.cart.specs.Stretches.{Stretches}
 use Rattle.cart.specs.Cases.{Cases}
 use Rattle.cart.specs.Cut.{CutRuns}
 use Rattle.cart.specs.Resume.{Resumes}
@@ -63,8 +64,9 @@ pub record Others : Type 0 where
   pub flagKept : FlagKept
   pub partKept : PartKept
   pub counts : Counts
-  pub thinCall : (len : ℕ) (kind : SaveType) (part : Part) (dirty : Bool) (chip : ChipRecord) (m : List ℕ) (v : ℕ)
-      → ThinCall len kind part dirty chip m v
+  pub stretches : Stretches
+  pub thinCall : (len : ℕ) (kind : SaveType) (part : Part) (dirty : Bool) (chip : ChipRecord) (m ts : List ℕ) (v : ℕ)
+      → ThinCall len kind part dirty chip m ts v
   pub recordAndBytes : RecordAndBytes
   pub largestKept : LargestKept
   pub noneIsZero : NoneIsZero

@@ -11,10 +11,10 @@ pub const NONE_IN_USE: u32 = 4294967295;
 pub fn clear(tallies: &mut [u16])
     ensures { λ _. ⌜ now (tallies .exit) ≡ replicate (length (now (tallies .entry))) 0 ⌝ }
 {
-    let mut k = 0;
-    while k < tallies.len() {
-        tallies[k] = 0;
-        k += 1;
+    let mut i = 0;
+    while i < tallies.len() {
+        tallies[i] = 0;
+        i += 1;
     }
 }
 
