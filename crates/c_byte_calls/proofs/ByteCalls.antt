@@ -3,11 +3,13 @@ use mathlib.Core.Path.{_≡_, sym, ap, _∙_}
 use mathlib.Core.Logic.{_≢_}
 use mathlib.Core.Bool.{true}
 use mathlib.Core.List.{List, [], _∷_}
-use Prim.Native.Nat.{ℕ}
+use Prim.Native.Nat.{ℕ, _/_}
 use native.Mathlib.Omega.{arith}
 use lib.ListN.{length}
 use Rattle.memory.specs.Memory.{stored, withCount, stores}
 use Rattle.kind.specs.Kind.{memorySize, tallyCount}
+use Rattle.kind.specs.declared.SaveType.{SaveType}
+use Rattle.kind.proofs.Sizes.{whole-stretches}
 use Rattle.byte_step.specs.declared.ByteStep.{ByteStep}
 use Rattle.byte_step.specs.ByteStep.{readByte, writeStep}
 use Rattle.byte_step.proofs.Fits.{step-id}
@@ -25,6 +27,13 @@ pub id-kept : (r m : List ℕ) (a x : ℕ) (t : ByteStep) → t ≡ writeStep (c
 id-kept r m a x t e h =
     ap (λ (y : ByteStep). y .flash .id) e
     ∙ step-id (cartOf r .kind) (cartOf r .chip .flash) (length m) a x (ap (λ (y : ByteStep). stores (y .store)) (sym e) ∙ h)
+
+-- a memory of the kind's length has a tally for each 4,096 bytes
+pub tallies-of : (kind : SaveType) (n k : ℕ) → n ≡ memorySize kind → k ≡ n / 4096 → k ≡ tallyCount kind
+tallies-of kind n k e h = omega (arith, e, h, whole-stretches kind)
+
+pub tallies-by : (kind : SaveType) (n k : ℕ) → n ≡ memorySize kind → k ≡ tallyCount kind → k ≡ n / 4096
+tallies-by kind n k e h = omega (arith, e, h, whole-stretches kind)
 
 module _ (r m : List ℕ) (v : Valid r) where
   -- question 3 is answered no

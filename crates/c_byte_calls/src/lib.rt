@@ -92,7 +92,8 @@ fn write_valid(
     if memory.len() != kind::memory_size(kind) {
         return 3;
     }
-    if tallies.len() != kind::tally_count(kind) {
+    // a tally for each 4,096 bytes: no second table by the kind
+    if tallies.len() != memory.len() / 4096 {
         return 16;
     }
     let flash = c_record::flash_in(cart);
