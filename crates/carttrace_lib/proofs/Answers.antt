@@ -1,5 +1,6 @@
 -- What a call answers, as a line. Assumes nothing.
-use mathlib.Core.Path.{_≡_, _∙_}
+use mathlib.Core.Path.{_≡_, sym, _∙_}
+use mathlib.Core.Bool.{false}
 use mathlib.Core.List.{List, [], _∷_}
 use Prim.Native.Nat.{ℕ, _/_, _%_}
 use native.Mathlib.Omega.{arith}
@@ -11,9 +12,11 @@ use Rattle.lists.proofs.Bools.{cases}
 use Rattle.hex.specs.Hex.{hex}
 use Rattle.cart.specs.declared.Cartridge.{Cartridge}
 use Rattle.cart.specs.ChipState.{chipBytes}
-use Rattle.cart.specs.Record.{State, guarded, outcome, counted}
-use Rattle.cart.specs.Calls.{questions, accepted, step, saveRead, saveWrite, eepromBeginDma, eepromWrite, eepromRead, chipState}
-use Rattle.cart.specs.Replies.{replyOf}
+use Rattle.cart.specs.Record.{State, Outcome, guarded, outcome, counted}
+use Rattle.cart.specs.Calls.{Call, questions, accepted, step, saveRead, saveWrite, eepromBeginDma, eepromWrite, eepromRead, chipState}
+use Rattle.cart.specs.Replies.{state, tallied, replyOf}
+use Rattle.cart.specs.Stretches.{takesTallies, besideTallies}
+use Rattle.cart.proofs.Stretches.{stretches}
 use Rattle.state_calls.specs.StateAnswer.{stateAnswer, orZeros}
 use Rattle.frames.specs.Frames.{lineOf}
 use Rattle.carttrace_lib.specs.declared.Played.{Played}
@@ -61,12 +64,22 @@ pub record-line : (s : State) → let o = step chipState [] s in stateLine (stat
 unfolding step accepted chipBytes
 record-line s = state-line (questions chipState [] s) [] s s _ _
 
+-- a call that is not passed the tallies, as if it were
+pub beside : {R : Type 0} (f : Outcome → R × List ℕ) (c : Call) (cart : Cartridge) (m ts : List ℕ) {r : R} {n : List ℕ}
+    → ((o : Outcome) → f (besideTallies ts o) ≡ f o) → takesTallies c ≡ false → _≡_ {A = R × List ℕ} (r, n) (f (step c [] (state cart m)))
+    → let o = step c [] (tallied cart m ts) in
+    _≡_ {A = R × List ℕ × List ℕ} (r, n, ts) (f o .0, f o .1, o .next .tallies)
+beside f c cart m ts k t e =
+    let h = e ∙ sym (k (step c [] (state cart m))) in
+    let p = sym (stretches .apart ts c [] (state cart m) t) in
+    (λ i. (h i .0, h i .1, ts)) ∙ (λ i. (f (p i) .0, f (p i) .1, p i .next .tallies))
+
 -- what a call left, and then its reply's line
-pub shows : {R : Type 0} (f : R → List ℕ) (g : R → Cartridge) {r q : R} {m n out' text : List ℕ} {x : Played} (out : List ℕ)
-    → _≡_ {A = R × List ℕ} (r, m) (q, n) → _≡_ {A = Played × List ℕ} (x, out') (left (g r) (f r) out) → f q ≡ text
-    → _≡_ {A = Played × List ℕ × List ℕ} (x, m, out') (playedWith (g q) (length text), n, into text out)
-shows f g {r} {q} {m} {n} {out'} {text} {x} out e h t =
+pub shows : {R : Type 0} (f : R → List ℕ) (g : R → Cartridge) {r q : R} {m n ts us out' text : List ℕ} {x : Played} (out : List ℕ)
+    → _≡_ {A = R × List ℕ × List ℕ} (r, m, ts) (q, n, us) → _≡_ {A = Played × List ℕ} (x, out') (left (g r) (f r) out) → f q ≡ text
+    → _≡_ {A = Played × List ℕ × List ℕ × List ℕ} (x, m, ts, out') (playedWith (g q) (length text), n, us, into text out)
+shows f g {r} {q} {m} {n} {ts} {us} {out'} {text} {x} out e h t =
     let a : f r ≡ text = (λ i. f (e i .0)) ∙ t in
     let k : x ≡ playedWith (g q) (length text) = (λ i. h i .0) ∙ (λ i. playedWith (g (e i .0)) (length (a i))) in
     let w : out' ≡ into text out = (λ i. h i .1) ∙ (λ i. into (a i) out) in
-    λ i. (k i, e i .1, w i)
+    λ i. (k i, e i .1, e i .2, w i)

@@ -18,7 +18,7 @@ use Rattle.frames.proofs.Lines.{first-said}
 use Rattle.carttrace_lib.specs.declared.Stage.{Stage}
 use Rattle.carttrace_lib.specs.declared.Stage.the-variants.{First, Playing, Over}
 use Rattle.carttrace_lib.specs.declared.Session.{Session}
-use Rattle.carttrace_lib.specs.Session.{sessionWith, opened, begun, lineEnded, took, tookAll, isEmpty, finished, noKind, over}
+use Rattle.carttrace_lib.specs.Session.{Buffers, sessionWith, opened, begun, lineEnded, took, tookAll, isEmpty, finished, noKind, over}
 use Rattle.carttrace_lib.specs.Claims.{printedBy, isNoKind, badFirst, stillPrinted, Ends}
 use Rattle.carttrace_lib.proofs.Whole.{printed-more, took-end, took-char, push-more, over-silent}
 
@@ -45,16 +45,16 @@ no-kind-stays l c h =
     (λ e. rw e)
 
 -- the end of a bad line 1
-bad-ended : (l : Line) (cart : Cartridge) (m : List ℕ) → noKind l ≡ true → lineEnded (sessionWith First l cart) m ≡ begun NoKind (sessionWith First l cart) m
+bad-ended : (l : Line) (cart : Cartridge) (m : Buffers) → noKind l ≡ true → lineEnded (sessionWith First l cart) m ≡ begun NoKind (sessionWith First l cart) m
 unfolding lineEnded
 bad-ended l cart m h = ap (λ (f : FirstLine). begun f (sessionWith First l cart) m) (no-kind-none l h)
 
-bad-finished : (l : Line) (cart : Cartridge) (m : List ℕ) → noKind l ≡ true → finished (sessionWith First l cart) m .text ≡ lineOf 0xff []
+bad-finished : (l : Line) (cart : Cartridge) (m : Buffers) → noKind l ≡ true → finished (sessionWith First l cart) m .text ≡ lineOf 0xff []
 unfolding finished begun
 bad-finished l cart m h = rw (no-kind-full l h, bad-ended l cart m h)
 
 -- whatever follows a line 1 that can become no kind
-bad-printed : (input : List ℕ) (l : Line) (cart : Cartridge) (m : List ℕ) → noKind l ≡ true → printedBy input (sessionWith First l cart) m ≡ lineOf 0xff []
+bad-printed : (input : List ℕ) (l : Line) (cart : Cartridge) (m : Buffers) → noKind l ≡ true → printedBy input (sessionWith First l cart) m ≡ lineOf 0xff []
 unfolding printedBy tookAll begun
 bad-printed [] l cart m h = bad-finished l cart m h
 bad-printed (c ∷ input) l cart m h =
@@ -64,7 +64,7 @@ bad-printed (c ∷ input) l cart m h =
     (λ e. rw (took-end c s m e, bad-ended l cart m h, over-silent input emptyLine cart m) (append-nil (lineOf 0xff [])))
     (λ e. rw (took-char c s m e) (bad-printed input (pushed l c) cart m (no-kind-stays l c h)))
 
-nothing-more : (g : Stage) (l : Line) (cart : Cartridge) (input m : List ℕ) → over (sessionWith g l cart) ≡ true
+nothing-more : (g : Stage) (l : Line) (cart : Cartridge) (input : List ℕ) (m : Buffers) → over (sessionWith g l cart) ≡ true
     → printedBy input (sessionWith g l cart) m ≡ stillPrinted (sessionWith g l cart)
 unfolding over stillPrinted
 nothing-more First l cart input m h = bad-printed input l cart m h
@@ -72,17 +72,17 @@ nothing-more Playing l cart input m h = absurd (true≢false (sym h))
 nothing-more Over l cart input m h = over-silent input l cart m
 
 -- a session that is over stays so
-stays-over : (input : List ℕ) (l : Line) (cart : Cartridge) (m : List ℕ) → over (tookAll input (sessionWith Over l cart) m .session) ≡ true
+stays-over : (input : List ℕ) (l : Line) (cart : Cartridge) (m : Buffers) → over (tookAll input (sessionWith Over l cart) m .session) ≡ true
 unfolding over tookAll took lineEnded
 stays-over [] l cart m = refl
 stays-over (c ∷ input) l cart m = cases (eqb c 0x0a) (λ e. rw e (stays-over input l cart m)) (λ e. rw e (stays-over input (pushed l c) cart m))
 
-bad-over : (f : FirstLine) (input : List ℕ) (s : Session) (m : List ℕ) → isNoKind f ≡ true → let h = begun f s m in over (tookAll input (h .session) (h .memory) .session) ≡ true
+bad-over : (f : FirstLine) (input : List ℕ) (s : Session) (m : Buffers) → isNoKind f ≡ true → let h = begun f s m in over (tookAll input (h .session) (h .buffers) .session) ≡ true
 unfolding begun
 bad-over NoKind input s m h = stays-over input emptyLine (s .cart) m
 bad-over (Fresh kind) input s m h = absurd (true≢false (sym h))
 
-at-bad-first : (input line : List ℕ) (cart : Cartridge) (m : List ℕ) → badFirst line input ≡ true
+at-bad-first : (input line : List ℕ) (cart : Cartridge) (m : Buffers) → badFirst line input ≡ true
     → over (tookAll input (sessionWith First (pushedAll emptyLine line) cart) m .session) ≡ true
 unfolding badFirst tookAll lineEnded
 at-bad-first [] line cart m h = absurd (true≢false (sym h))

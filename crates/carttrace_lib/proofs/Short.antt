@@ -20,7 +20,7 @@ use Rattle.carttrace_lib.specs.declared.Stage.{Stage}
 use Rattle.carttrace_lib.specs.declared.Stage.the-variants.{First, Playing, Over}
 use Rattle.carttrace_lib.specs.declared.Session.{Session}
 use Rattle.carttrace_lib.specs.Trace.{play}
-use Rattle.carttrace_lib.specs.Session.{Heard, heard, begun, continued, byStage, lineEnded, took}
+use Rattle.carttrace_lib.specs.Session.{Buffers, Heard, heard, begun, continued, byStage, lineEnded, took}
 
 line-short : (status : ℕ) (bytes : List ℕ) → length bytes ≤ 18 → length (lineOf status bytes) ≤ 39
 line-short status bytes h = omega (arith, length-line status bytes, h)
@@ -45,21 +45,21 @@ play-short TakeFlag s =
 play-short ChipState s = step-short chipState s (omega arith)
 play-short Bad s = line-short _ [] (omega arith)
 
-begun-short : (f : FirstLine) (s : Session) (m : List ℕ) → length (begun f s m .text) ≤ 39
+begun-short : (f : FirstLine) (s : Session) (m : Buffers) → length (begun f s m .text) ≤ 39
 unfolding begun
 begun-short (Fresh kind) s m = line-short 0 [] (omega arith)
 begun-short NoKind s m = line-short 0xff [] (omega arith)
 
-staged-short : (g : Stage) (s : Session) (m : List ℕ) → length (byStage g (begun (firstIn (s .line)) s m) (continued s m) (heard [] s m) .text) ≤ 39
+staged-short : (g : Stage) (s : Session) (m : Buffers) → length (byStage g (begun (firstIn (s .line)) s m) (continued s m) (heard [] s m) .text) ≤ 39
 unfolding continued
 staged-short First s m = begun-short (firstIn (s .line)) s m
 staged-short Playing s m = play-short (frameIn (s .line)) _
 staged-short Over s m = omega arith
 
-pub ended-short : (s : Session) (m : List ℕ) → length (lineEnded s m .text) ≤ 39
+pub ended-short : (s : Session) (m : Buffers) → length (lineEnded s m .text) ≤ 39
 unfolding lineEnded
 ended-short s m = staged-short (s .stage) s m
 
-pub took-short : (s : Session) (c : ℕ) (m : List ℕ) → length (took s c m .text) ≤ 39
+pub took-short : (s : Session) (c : ℕ) (m : Buffers) → length (took s c m .text) ≤ 39
 unfolding took
 took-short s c m = either (λ (h : Heard). length (h .text) ≤ 39) (eqb c 0x0a) (ended-short s m) (omega arith)

@@ -3,11 +3,11 @@ use mathlib.Core.Bool.{cond}
 use mathlib.Core.List.{List, [], _∷_, _++_}
 use Prim.Native.Nat.{ℕ, _+_, _*_}
 use lib.Dec.{eqb}
-use lib.ListN.{length}
+use lib.ListN.{length, replicate}
 use Rattle.lists.specs.Lists.{into, bit}
 use Rattle.memory.specs.Memory.{erased}
 use Rattle.kind.specs.declared.SaveType.{SaveType}
-use Rattle.kind.specs.Kind.{memorySize}
+use Rattle.kind.specs.Kind.{memorySize, tallyCount}
 use Rattle.part.specs.declared.Part.the-variants.{Usual}
 use Rattle.cart.specs.declared.Cartridge.{Cartridge}
 use Rattle.cart.specs.declared.Reply.{Reply}
@@ -15,7 +15,7 @@ use Rattle.cart.specs.ChipState.{stateSize}
 use Rattle.cart.specs.Record.{State, Outcome, freshCart}
 use Rattle.cart.specs.Calls.{saveRead, saveWrite, eepromBeginDma, eepromWrite, eepromRead}
 use Rattle.cart.specs.Calls.{chipState, takeSaveDirty, step}
-use Rattle.cart.specs.Replies.{state}
+use Rattle.cart.specs.Replies.{tallied}
 use Rattle.state_calls.specs.declared.StateAnswer.{StateAnswer}
 use Rattle.frames.specs.declared.Frame.{Frame}
 use Rattle.frames.specs.declared.Frame.the-variants.{SaveRead, SaveWrite, EepromRead, EepromWrite}
@@ -56,7 +56,7 @@ playAll (line ∷ lines) s = let p = play (frame line) s in p .text ++ playAll l
 
 -- "Line 1 is a fresh kind with image length 192", with the usual part
 unfoldable pub freshKind : SaveType → State
-freshKind kind = state (freshCart 192 kind Usual) (erased (memorySize kind))
+freshKind kind = tallied (freshCart 192 kind Usual) (erased (memorySize kind)) (replicate (tallyCount kind) 0)
 
 -- "and ends if that is line 1. No input, no output."
 abbrev pub playFrom : FirstLine → List (List ℕ) → List ℕ
@@ -104,5 +104,6 @@ playedWith cart len = record { cart = cart; len = len }
 abbrev pub left : Cartridge → List ℕ → List ℕ → Played × List ℕ
 left cart text out = (playedWith cart (length text), into text out)
 
-abbrev pub shown : Printed → List ℕ → Played × List ℕ × List ℕ
-shown p out = (playedWith (p .next .cart) (length (p .text)), p .next .memory, into (p .text) out)
+abbrev pub shown : Printed → List ℕ → Played × List ℕ × List ℕ × List ℕ
+shown p out =
+    (playedWith (p .next .cart) (length (p .text)), p .next .memory, p .next .tallies, into (p .text) out)

@@ -10,7 +10,7 @@ ghost use mathlib.Core.List.{[]};
 ghost use Prim.Native.Nat.{_≤_};
 ghost use lib.ListN.{length};
 ghost use Rattle.cart.specs.ChipState.{stateSize};
-ghost use Rattle.cart.specs.Replies.{state};
+ghost use Rattle.cart.specs.Replies.{tallied};
 ghost use Rattle.frames.specs.Frames.{lineOf};
 ghost use Rattle.carttrace_lib.specs.Trace.{longestLine, play as play·spec, statusLine, valueLine, stateLine};
 ghost use Rattle.carttrace_lib.specs.Trace.{written, playedWith, left, shown};
@@ -73,20 +73,26 @@ fn show_value(reply: Reply, out: &mut [u8]) -> Played
 }
 
 // The call that a frame names.
-pub fn play(frame: Frame, cart: Cartridge, memory: &mut [u8], out: &mut [u8]) -> Played
+pub fn play(
+    frame: Frame,
+    cart: Cartridge,
+    memory: &mut [u8],
+    tallies: &mut [u16],
+    out: &mut [u8],
+) -> Played
     requires { ⌜ longestLine ≤ length (now out) ⌝ }
-    ensures { λ r. ⌜ (r, now (memory .exit), now (out .exit))
-        ≡ shown (play·spec frame (state cart (now (memory .entry)))) (now (out .entry)) ⌝ }
+    ensures { λ r. ⌜ (r, now (memory .exit), now (tallies .exit), now (out .exit))
+        ≡ shown (play·spec frame (tallied cart (now (memory .entry)) (now (tallies .entry)))) (now (out .entry)) ⌝ }
 {
     match frame {
         Frame::SaveRead(address) => show_value(byte_calls::save_read(cart, memory, address), out),
         Frame::SaveWrite(address, value) => show_status(
-            byte_calls::save_write(cart, memory, address, value),
+            byte_calls::save_write(cart, memory, tallies, address, value),
             out,
         ),
         Frame::EepromRead => show_value(serial_calls::eeprom_read(cart, memory), out),
         Frame::EepromWrite(value) => show_status(
-            serial_calls::eeprom_write(cart, memory, value),
+            serial_calls::eeprom_write(cart, memory, tallies, value),
             out,
         ),
         Frame::BeginDma(words) => show_status(

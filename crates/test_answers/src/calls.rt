@@ -10,6 +10,7 @@ use crate::kinds::kind_of;
 use crate::kinds::size;
 use crate::made::make_file;
 use crate::rooms::at_most;
+use crate::rooms::at_most_tallies;
 use crate::rooms::file_room;
 use crate::rooms::line_room;
 use cart::Cartridge;
@@ -19,8 +20,6 @@ use carttrace_lib::Played;
 use frames::Frame;
 use frames::Line;
 use kind::SaveType;
-use memory::NO_FILE;
-use memory::Store;
 use part::Part;
 ghost use Prim.Native.Nat.{_≤_};
 ghost use lib.ListN.{length};
@@ -55,7 +54,13 @@ fn line_of(frame: &[u8]) -> Line {
 }
 
 // 04: the serial bit in by the thin call, on a chip record passed by reference.
-fn bit_in(value: u16, cart: Cartridge, memory: &mut [u8], out: &mut [u8]) -> Played
+fn bit_in(
+    value: u16,
+    cart: Cartridge,
+    memory: &mut [u8],
+    tallies: &mut [u16],
+    out: &mut [u8],
+) -> Played
     requires { ⌜ 256 ≤ length (now out) ⌝ }
 {
     let kind = cart.kind;
@@ -68,6 +73,7 @@ fn bit_in(value: u16, cart: Cartridge, memory: &mut [u8], out: &mut [u8]) -> Pla
         part,
         cart.dirty,
         memory,
+        tallies,
         value,
     );
     let after = r.chip;
@@ -83,14 +89,20 @@ fn bit_in(value: u16, cart: Cartridge, memory: &mut [u8], out: &mut [u8]) -> Pla
 }
 
 // 01 to 07.
-fn trace_frame(text: &[u8], cart: Cartridge, memory: &mut [u8], out: &mut [u8]) -> Played
+fn trace_frame(
+    text: &[u8],
+    cart: Cartridge,
+    memory: &mut [u8],
+    tallies: &mut [u16],
+    out: &mut [u8],
+) -> Played
     requires { ⌜ 256 ≤ length (now out) ⌝ }
 {
     let frame = frames::frame_in(line_of(text));
     match frame {
         Frame::Bad => no_answer(cart),
-        Frame::EepromWrite(value) => bit_in(value, cart, memory, out),
-        _ => carttrace_lib::play(frame, cart, memory, out),
+        Frame::EepromWrite(value) => bit_in(value, cart, memory, tallies, out),
+        _ => carttrace_lib::play(frame, cart, memory, tallies, out),
     }
 }
 
@@ -99,16 +111,17 @@ fn load_made(
     seed: u8,
     cart: Cartridge,
     memory: &mut [u8],
+    tallies: &mut [u16],
     out: &mut [u8],
 ) -> Played
     requires { ⌜ 256 ≤ length (now out) ⌝ }
 {
     make_file(file, seed);
-    status(file_calls::load_save(cart, memory, file), out)
+    status(file_calls::load_save(cart, memory, tallies, file), out)
 }
 
 // 08 length (6) seed (2).
-fn load(s: &[u8], cart: Cartridge, memory: &mut [u8], out: &mut [u8]) -> Played
+fn load(s: &[u8], cart: Cartridge, memory: &mut [u8], tallies: &mut [u16], out: &mut [u8]) -> Played
     requires { ⌜ 256 ≤ length (now out) ⌝ }
 {
     let len = (number(s, 0) % 16777216) as usize;
@@ -117,7 +130,7 @@ fn load(s: &[u8], cart: Cartridge, memory: &mut [u8], out: &mut [u8]) -> Played
     if n != len {
         return no_answer(cart);
     }
-    load_made(&mut file[..n], byte(s, 4), cart, memory, out)
+    load_made(&mut file[..n], byte(s, 4), cart, memory, tallies, out)
 }
 
 // 09.
@@ -146,14 +159,22 @@ fn restore(s: &[u8], cart: Cartridge, out: &mut [u8]) -> Played
     status(state_calls::restore_chip_state(cart, &s[1..]), out)
 }
 
-fn opened(kind: SaveType, len: usize, cart: Cartridge, memory: &mut [u8], out: &mut [u8]) -> Played
+fn opened(
+    kind: SaveType,
+    len: usize,
+    cart: Cartridge,
+    memory: &mut [u8],
+    tallies: &mut [u16],
+    out: &mut [u8],
+) -> Played
     requires { ⌜ 256 ≤ length (now out) ⌝ }
 {
     if !image::image_length(len) {
         return played(cart, frames::print_line(out, 1, b""));
     }
     let n = at_most(kind::memory_size(kind), memory);
-    memory::apply(Store::Chip, &NO_FILE, &mut memory[..n]);
+    let k = at_most_tallies(kind::tally_count(kind), tallies);
+    memory::blank(&mut memory[..n], &mut tallies[..k]);
     played(
         cart::fresh_cart(len, kind, Part::Usual),
         frames::print_line(out, 0, b""),
@@ -161,7 +182,13 @@ fn opened(kind: SaveType, len: usize, cart: Cartridge, memory: &mut [u8], out: &
 }
 
 // 0B kind (2) image length (8).
-fn fresh(s: &[u8], cart: Cartridge, memory: &mut [u8], out: &mut [u8]) -> Played
+fn fresh(
+    s: &[u8],
+    cart: Cartridge,
+    memory: &mut [u8],
+    tallies: &mut [u16],
+    out: &mut [u8],
+) -> Played
     requires { ⌜ 256 ≤ length (now out) ⌝ }
 {
     if s.len() != 6 {
@@ -169,7 +196,7 @@ fn fresh(s: &[u8], cart: Cartridge, memory: &mut [u8], out: &mut [u8]) -> Played
     }
     let kind = kind_of(byte(s, 1));
     match kind {
-        Kind::Of(k) => opened(k, number(s, 2) as usize, cart, memory, out),
+        Kind::Of(k) => opened(k, number(s, 2) as usize, cart, memory, tallies, out),
         Kind::Nothing => no_answer(cart),
     }
 }
@@ -187,7 +214,7 @@ fn frame_length(number: u8) -> usize {
 }
 
 // The frames 08 to 0D but 0B, as bytes.
-fn call(s: &[u8], cart: Cartridge, memory: &mut [u8], out: &mut [u8]) -> Played
+fn call(s: &[u8], cart: Cartridge, memory: &mut [u8], tallies: &mut [u16], out: &mut [u8]) -> Played
     requires { ⌜ 256 ≤ length (now out) ⌝ }
 {
     let number = byte(s, 0);
@@ -195,7 +222,7 @@ fn call(s: &[u8], cart: Cartridge, memory: &mut [u8], out: &mut [u8]) -> Played
         return no_answer(cart);
     }
     match number {
-        0x08 => load(s, cart, memory, out),
+        0x08 => load(s, cart, memory, tallies, out),
         0x09 => export(cart, memory, out),
         0x0A => restore(s, cart, out),
         0x0C => played(cart, fit(s, out)),
@@ -204,28 +231,42 @@ fn call(s: &[u8], cart: Cartridge, memory: &mut [u8], out: &mut [u8]) -> Played
     }
 }
 
-// A frame as text and as bytes, with the memory of the record's kind.
-fn frame_answer(text: &[u8], s: &[u8], cart: Cartridge, memory: &mut [u8], out: &mut [u8]) -> Played
+// A frame as text and as bytes, with memory and tallies of the record's kind.
+fn frame_answer(
+    text: &[u8],
+    s: &[u8],
+    cart: Cartridge,
+    memory: &mut [u8],
+    tallies: &mut [u16],
+    out: &mut [u8],
+) -> Played
     requires { ⌜ 256 ≤ length (now out) ⌝ }
 {
     let number = byte(s, 0);
     match number {
-        0x01..=0x07 => trace_frame(text, cart, memory, out),
+        0x01..=0x07 => trace_frame(text, cart, memory, tallies, out),
         0x10 => played(cart, image_answer(s, out)),
-        _ => call(s, cart, memory, out),
+        _ => call(s, cart, memory, tallies, out),
     }
 }
 
-pub fn answer(text: &[u8], cart: Cartridge, memory: &mut [u8], out: &mut [u8]) -> Played
+pub fn answer(
+    text: &[u8],
+    cart: Cartridge,
+    memory: &mut [u8],
+    tallies: &mut [u16],
+    out: &mut [u8],
+) -> Played
     requires { ⌜ 256 ≤ length (now out) ⌝ }
 {
     let mut bytes = line_room();
     let count = decode(&mut bytes, text);
     let s = &bytes[..count];
     if byte(s, 0) == 0x0B {
-        return fresh(s, cart, memory, out);
+        return fresh(s, cart, memory, tallies, out);
     }
     let kind = cart.kind;
     let n = at_most(kind::memory_size(kind), memory);
-    frame_answer(text, s, cart, &mut memory[..n], out)
+    let k = at_most_tallies(kind::tally_count(kind), tallies);
+    frame_answer(text, s, cart, &mut memory[..n], &mut tallies[..k], out)
 }

@@ -5,7 +5,9 @@ use crate::digits::number;
 use crate::made::make_image;
 use crate::made::put_text;
 use crate::rooms::at_most;
+use crate::rooms::at_most_tallies;
 use crate::rooms::memory_room;
+use crate::rooms::tallies_room;
 use cart::Cartridge;
 use cart::Reply;
 use part::Part;
@@ -13,11 +15,14 @@ ghost use mathlib.Core.Path.{_≡_};
 ghost use Prim.Native.Nat.{_≤_};
 ghost use lib.ListN.{length};
 
-// Opens the image; the memory is not kept.
+// Opens the image; memory and tallies are not kept.
 fn opened(image: &[u8]) -> Reply {
     let mut memory = memory_room();
-    let n = at_most(kind::memory_size(kind::detect_save_type(image)), &memory);
-    state_calls::from_bytes(image, Part::Usual, &mut memory[..n])
+    let mut tallies = tallies_room();
+    let kind = kind::detect_save_type(image);
+    let n = at_most(kind::memory_size(kind), &memory);
+    let k = at_most_tallies(kind::tally_count(kind), &tallies);
+    state_calls::from_bytes(image, Part::Usual, &mut memory[..n], &mut tallies[..k])
 }
 
 // Kind, header check, CRC, `save_size`, `eeprom_window_start`, and the title's length.

@@ -1,5 +1,6 @@
 // Replays the list of the original's answers: makes each line's call, prints every line whose answer differs, and
-// counts. `compare/README.md` describes the frames.
+// counts. After each call it holds what the tallies answer against a full reading of the memory. `compare/README.md`
+// describes the frames.
 
 mod calls;
 mod digits;
@@ -7,18 +8,19 @@ mod images;
 mod kinds;
 mod made;
 mod rooms;
-mod tally;
+mod score;
+mod stretches;
 
 use bytes::scan::find;
 use cart::Cartridge;
 use kind::SaveType;
 use part::Part;
-use tally::Tally;
+use score::Score;
 
 // The state between two lines.
 struct Replay {
     cart: Cartridge,
-    tally: Tally,
+    score: Score,
 }
 
 // The text after a place.
@@ -30,13 +32,21 @@ fn after(text: &[u8], place: usize) -> &[u8] {
     &text[..0]
 }
 
-// The answer in `out` ends with a line feed. No answer never agrees.
+// The answer in `out` without its line feed.
+fn answer_in(out: &[u8], len: usize) -> &[u8] {
+    if len == 0 {
+        return &out[..0];
+    }
+    let n = rooms::at_most(len - 1, out);
+    &out[..n]
+}
+
+// No answer never agrees.
 fn agrees(expected: &[u8], out: &[u8], len: usize) -> bool {
     if len == 0 {
         return false;
     }
-    let n = rooms::at_most(len - 1, out);
-    check::same(expected, &out[..n])
+    check::same(expected, answer_in(out, len))
 }
 
 fn print(text: &[u8]) {
@@ -63,48 +73,72 @@ fn print_difference(number: u64, frame: &[u8], expected: &[u8], out: &[u8], len:
     print_answer(out, len);
 }
 
-// Counts the line, and prints it if it differs.
-fn held(tally: Tally, frame: &[u8], expected: &[u8], out: &[u8], len: usize) -> Tally {
+// Prints and counts a difference.
+fn held(
+    score: Score,
+    title: &[u8],
+    frame: &[u8],
+    expected: &[u8],
+    out: &[u8],
+    len: usize,
+) -> Score {
     if agrees(expected, out, len) {
-        return tally::counted(tally, frame, true, true);
+        return score;
     }
-    let next = tally::counted(tally, frame, len != 0, false);
-    print_difference(next.lines, frame, expected, out, len);
-    next
+    print(title);
+    print_difference(score.lines, frame, expected, out, len);
+    score::differs(score)
+}
+
+// What the tallies answer after the call of a frame.
+fn tallies_held(
+    score: Score,
+    frame: &[u8],
+    cart: Cartridge,
+    memory: &[u8],
+    tallies: &[u16],
+) -> Score {
+    let mut read = rooms::line_room();
+    let mut told = rooms::line_room();
+    let n = stretches::by_reading(cart, memory, &mut read);
+    let len = stretches::by_tallies(cart, tallies, &mut told);
+    held(score, b"tallies, ", frame, answer_in(&read, n), &told, len)
 }
 
 // A line: frame, one space, answer.
-fn line(text: &[u8], replay: Replay, memory: &mut [u8]) -> Replay {
+fn line(text: &[u8], replay: Replay, memory: &mut [u8], tallies: &mut [u16]) -> Replay {
     let cart = replay.cart;
-    let tally = replay.tally;
+    let score = replay.score;
     let space = find(text, 0, text.len(), 0x20);
     let frame = &text[..space];
     let mut out = rooms::line_room();
-    let p = calls::answer(frame, cart, memory, &mut out);
+    let p = calls::answer(frame, cart, memory, tallies, &mut out);
     let next = p.cart;
-    let tally = held(tally, frame, after(text, space), &out, p.len);
+    let score = score::counted(score, frame, p.len != 0);
+    let score = held(score, b"", frame, after(text, space), &out, p.len);
+    let score = tallies_held(score, frame, next, memory, tallies);
     Replay {
         cart: next,
-        tally: tally,
+        score: score,
     }
 }
 
 fn begun() -> Replay {
     Replay {
         cart: cart::fresh_cart(0, SaveType::None, Part::Usual),
-        tally: tally::no_lines(),
+        score: score::no_lines(),
     }
 }
 
-fn lines(text: &[u8], memory: &mut [u8]) -> Tally {
+fn lines(text: &[u8], memory: &mut [u8], tallies: &mut [u16]) -> Score {
     let mut replay = begun();
     let mut i = 0;
     while i < text.len() {
         let end = find(text, i, text.len(), 0x0A);
-        replay = line(&text[i..end], replay, memory);
+        replay = line(&text[i..end], replay, memory, tallies);
         i = end + 1;
     }
-    replay.tally
+    replay.score
 }
 
 fn main() {
@@ -123,5 +157,6 @@ fn main() {
         return;
     }
     let mut memory = rooms::memory_room();
-    tally::print_tally(lines(&text[..len], &mut memory));
+    let mut tallies = rooms::tallies_room();
+    score::print_score(lines(&text[..len], &mut memory, &mut tallies));
 }

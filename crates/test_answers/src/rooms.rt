@@ -18,6 +18,13 @@ pub fn memory_room() -> [u8; 131072]
     [0; 131072]
 }
 
+// Room for the tallies of every kind.
+pub fn tallies_room() -> [u16; 32]
+    ensures { λ r. ⌜ 32 ≡ length r ⌝ }
+{
+    [0; 32]
+}
+
 // Room for every file of the list, and for what every kind exports.
 pub fn file_room() -> [u8; 131328]
     ensures { λ r. ⌜ 131328 ≡ length r ⌝ }
@@ -36,6 +43,16 @@ pub fn line_room() -> [u8; 256]
 pub fn at_most(n: usize, s: &[u8]) -> usize
     ensures { λ r. ⌜ Counts r (now (s .entry)) ⌝ }
     ensures { λ r. ⌜ r ≤ n ⌝ }
+{
+    if n <= s.len() {
+        return n;
+    }
+    s.len()
+}
+
+// The same of tallies.
+pub fn at_most_tallies(n: usize, s: &[u16]) -> usize
+    ensures { λ r. ⌜ Counts r (now (s .entry)) ⌝ }
 {
     if n <= s.len() {
         return n;

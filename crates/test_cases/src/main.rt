@@ -32,26 +32,28 @@ fn piece_end(i: usize, n: usize) -> usize
 }
 
 // The text in pieces.
-fn pieces(text: &[u8], memory: &mut [u8], out: &mut [u8]) -> Session
+fn pieces(text: &[u8], memory: &mut [u8], tallies: &mut [u16], out: &mut [u8]) -> Session
     requires { ⌜ 131072 ≤ length (now memory) ⌝ }
+    requires { ⌜ 32 ≤ length (now tallies) ⌝ }
     requires { ⌜ 4096 ≤ length (now out) ⌝ }
 {
     let mut session = carttrace_lib::opened();
     let mut i = 0;
     while i < text.len() {
         let end = piece_end(i, text.len());
-        let t = carttrace_lib::feed(session, &text[i..end], memory, out);
+        let t = carttrace_lib::feed(session, &text[i..end], memory, tallies, out);
         session = show(t, out);
         i = end;
     }
     session
 }
 
-fn run(text: &[u8], memory: &mut [u8], out: &mut [u8])
+fn run(text: &[u8], memory: &mut [u8], tallies: &mut [u16], out: &mut [u8])
     requires { ⌜ 131072 ≤ length (now memory) ⌝ }
+    requires { ⌜ 32 ≤ length (now tallies) ⌝ }
     requires { ⌜ 4096 ≤ length (now out) ⌝ }
 {
-    let t = carttrace_lib::finish(pieces(text, memory, out), memory, out);
+    let t = carttrace_lib::finish(pieces(text, memory, tallies, out), memory, tallies, out);
     show(t, out);
 }
 
@@ -71,8 +73,9 @@ fn case(k: usize) {
     let len = io::read_full(fd, &mut text);
     libc::close(fd);
     let mut memory = memory();
+    let mut tallies = [0u16; 32];
     let mut out = io::buffer();
-    run(&text[..len], &mut memory, &mut out);
+    run(&text[..len], &mut memory, &mut tallies, &mut out);
 }
 
 fn main() {

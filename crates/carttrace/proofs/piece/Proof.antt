@@ -6,7 +6,7 @@ use Rattle.carttrace.proofs.piece.Statement.{statement}
 use Rattle.carttrace.proofs.piece.Tie as tie
 
 slice-aggregate-write-all : tie.Need-slice-aggregate-write-all
-slice-aggregate-write-all c = sym (length-take-le _ _ (omega (arith, c .before .before .before .before .before .before .feed .ensures .1, c .before .before .before .out .given)))
+slice-aggregate-write-all c = sym (length-take-le _ _ (omega (arith, c .before .before .before .before .before .before .before .before .feed .ensures .1, c .before .before .before .out .given)))
 
 pub piece-spec : {M : Type 1} → statement M
 piece-spec =
@@ -24,6 +24,8 @@ piece-spec =
     slice-aggregate-write-all
     (λ c κs. search needs)
     (λ c κs. search needs)
+    (λ c. search needs)
+    (λ c. search needs)
     (λ c. search needs)
     (λ c. search needs)
     (λ c. search needs)

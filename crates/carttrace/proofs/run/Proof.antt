@@ -6,7 +6,7 @@ use Rattle.carttrace.proofs.run.Statement.{statement}
 use Rattle.carttrace.proofs.run.Tie as tie
 
 slice-aggregate-write-all : tie.Need-slice-aggregate-write-all
-slice-aggregate-write-all c = sym (length-take-le _ _ (omega (arith, c .before .before .before .before .before .finish .ensures .1, c .before .before .out2 .given)))
+slice-aggregate-write-all c = sym (length-take-le _ _ (omega (arith, c .before .before .before .before .before .before .before .finish .ensures .1, c .before .before .out2 .given)))
 
 pub run-spec : {M : Type 1} → statement M
 run-spec =
@@ -17,6 +17,7 @@ run-spec =
     (λ c. search needs)
     slice-aggregate-write-all
     (λ c κs. search needs)
+    (λ c. search needs)
     (λ c. search needs)
     (λ c. search needs)
     (λ c. search needs))

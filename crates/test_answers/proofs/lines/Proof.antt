@@ -6,10 +6,10 @@ use Rattle.test_answers.proofs.lines.Statement.{statement}
 use Rattle.test_answers.proofs.lines.Tie as tie
 
 abbrev Inv-loop : tie.InvT-loop
-Inv-loop text memory₀ replay₀ i₀ memory replay i = length memory ≡ length memory₀
+Inv-loop text memory₀ tallies₀ replay₀ i₀ memory tallies replay i = (length memory ≡ length memory₀) × (length tallies ≡ length tallies₀)
 
 abbrev μ-loop : tie.MeasureT-loop
-μ-loop text memory₀ replay₀ i₀ memory replay i = length text - i
+μ-loop text memory₀ tallies₀ replay₀ i₀ memory tallies replay i = length text - i
 
 pub lines-spec : {M : Type 1} → statement M
 lines-spec =
@@ -24,6 +24,7 @@ lines-spec =
     (λ c. search needs)
     (λ c. search needs)
     (λ c κs. search needs)
+    (λ c. search needs)
     (λ c. search needs)
     (λ c. search needs)
     (λ c. search needs)

@@ -8,16 +8,13 @@ use Rattle.test_cases.proofs.pieces.Statement.{statement}
 use Rattle.test_cases.proofs.pieces.Tie as tie
 
 abbrev Inv-loop : tie.InvT-loop
-Inv-loop text memory₀ out₀ session₀ i₀ memory out session i = (i ≤ length text) × (length memory ≡ length memory₀) × (length out ≡ length out₀)
+Inv-loop text memory₀ tallies₀ out₀ session₀ i₀ memory tallies out session i = (i ≤ length text) × (length memory ≡ length memory₀) × (length tallies ≡ length tallies₀) × (length out ≡ length out₀)
 
 abbrev μ-loop : tie.MeasureT-loop
-μ-loop text memory₀ out₀ session₀ i₀ memory out session i = length text - i
-
-opened-requires : tie.Need-opened-requires Inv-loop μ-loop
-opened-requires c κs = search needs
+μ-loop text memory₀ tallies₀ out₀ session₀ i₀ memory tallies out session i = length text - i
 
 loop-holds : tie.Need-loop-holds Inv-loop μ-loop
-loop-holds c = (omega arith, refl, refl)
+loop-holds c = (omega arith, refl, refl, refl)
 
 piece-end-requires : tie.Need-piece-end-requires Inv-loop μ-loop
 piece-end-requires c κs = omega (arith, c .loop-test)
@@ -33,19 +30,21 @@ part-feed-end c = omega (arith, c .piece-end .ensures)
 
 feed-requires : tie.Need-feed-requires Inv-loop μ-loop
 feed-requires c κs =
-    let e = c .before .before .before .piece-end .ensures in
-    let b = c .before .before .before .before .before .loop in
-    let l = length-take-le (c .before .before .before .piece-end .result - b .i) (drop (b .i) (c .before .before .before .before .before .before .before .before .before .before .args .text .now)) (omega (arith, e, length-drop (b .i) (c .before .before .before .before .before .before .before .before .before .before .args .text .now))) in
-    (omega (arith, b .inv .1, c .before .before .before .before .before .before .before .before .before .before .pre .0), omega (arith, l, e, b .inv .2, c .before .before .before .before .before .before .before .before .before .before .pre .1))
+    let e = c .before .before .before .before .piece-end .ensures in
+    let b = c .before .before .before .before .before .before .loop in
+    let p = c .before .before .before .before .before .before .before .before .before .before .before .before .pre in
+    let text = c .before .before .before .before .before .before .before .before .before .before .before .before .args .text .now in
+    let l = length-take-le (c .before .before .before .before .piece-end .result - b .i) (drop (b .i) text) (omega (arith, e, length-drop (b .i) text)) in
+    (omega (arith, b .inv .1, p .0), (omega (arith, b .inv .2, p .1 .0), omega (arith, l, e, b .inv .3, p .1 .1)))
 
 show-requires : tie.Need-show-requires Inv-loop μ-loop
-show-requires c κs = omega (arith, c .before .before .before .before .before .feed .ensures .1, c .before .before .out .given)
+show-requires c κs = omega (arith, c .before .before .before .before .before .before .before .feed .ensures .1, c .before .before .out .given)
 
 loop-less : tie.Need-loop-less Inv-loop μ-loop
-loop-less c = omega (arith, c .before .before .before .before .before .before .before .before .before .before .piece-end .ensures)
+loop-less c = omega (arith, c .before .before .before .before .before .before .before .before .before .before .before .before .before .piece-end .ensures)
 
 loop-again : tie.Need-loop-again Inv-loop μ-loop
-loop-again c = (omega (arith, c .before .before .before .before .before .before .before .before .before .before .piece-end .ensures), c .before .before .before .before .before .memory .given ∙ c .before .before .before .before .before .before .before .before .before .before .before .before .loop .inv .1, c .before .before .before .out .given ∙ c .before .before .before .before .before .before .before .before .before .before .before .before .loop .inv .2)
+loop-again c = (omega (arith, c .before .before .before .before .before .before .before .before .before .before .before .before .before .piece-end .ensures), c .before .before .before .before .before .before .before .memory .given ∙ c .before .before .before .before .before .before .before .before .before .before .before .before .before .before .before .loop .inv .1, c .before .before .before .before .before .tallies .given ∙ c .before .before .before .before .before .before .before .before .before .before .before .before .before .before .before .loop .inv .2, c .before .before .before .out .given ∙ c .before .before .before .before .before .before .before .before .before .before .before .before .before .before .before .loop .inv .3)
 
 same-length : tie.Need-same-length Inv-loop μ-loop
 same-length c = c .before .loop .inv .1
@@ -53,8 +52,8 @@ same-length c = c .before .loop .inv .1
 same-length-2 : tie.Need-same-length-2 Inv-loop μ-loop
 same-length-2 c = c .before .loop .inv .2
 
-returns : tie.Need-returns Inv-loop μ-loop
-returns c = search needs
+same-length-3 : tie.Need-same-length-3 Inv-loop μ-loop
+same-length-3 c = c .before .loop .inv .3
 
 pub pieces-spec : {M : Type 1} → statement M
 pieces-spec =
@@ -62,7 +61,7 @@ pieces-spec =
     (tie.spec
     Inv-loop
     μ-loop
-    opened-requires
+    (λ c κs. search needs)
     loop-holds
     piece-end-requires
     sub-feed
@@ -74,4 +73,5 @@ pieces-spec =
     loop-again
     same-length
     same-length-2
-    returns)
+    same-length-3
+    (λ c. search needs))

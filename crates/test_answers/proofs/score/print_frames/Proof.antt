@@ -1,7 +1,7 @@
 use Prim.Native.Nat.{_≤_, _-_}
 use borrow.Author.Needs.{needs}
-use Rattle.test_answers.proofs.tally.print_frames.Statement.{statement}
-use Rattle.test_answers.proofs.tally.print_frames.Tie as tie
+use Rattle.test_answers.proofs.score.print_frames.Statement.{statement}
+use Rattle.test_answers.proofs.score.print_frames.Tie as tie
 
 abbrev Inv-loop : tie.InvT-loop
 Inv-loop frames i₀ i = i ≤ 17

@@ -4,14 +4,14 @@ use crate::print;
 use std::num::wrapping_add_u64;
 
 // How many lines there were, how many of them differ, and how many have an answer, by the frame's number.
-pub struct Tally {
+pub struct Score {
     pub lines: u64,
     pub differ: u64,
     pub frames: [u64; 17],
 }
 
-pub fn no_lines() -> Tally {
-    Tally {
+pub fn no_lines() -> Score {
+    Score {
         lines: 0,
         differ: 0,
         frames: [0; 17],
@@ -34,17 +34,21 @@ fn number_of(frame: &[u8]) -> usize {
 }
 
 // One more line.
-pub fn counted(tally: Tally, frame: &[u8], answered: bool, agrees: bool) -> Tally {
-    let mut next = tally;
+pub fn counted(score: Score, frame: &[u8], answered: bool) -> Score {
+    let mut next = score;
     next.lines = wrapping_add_u64(next.lines, 1);
-    if !agrees {
-        next.differ = wrapping_add_u64(next.differ, 1);
-    }
     if answered {
         let frames = next.frames;
         let more = one_more(frames, number_of(frame));
         next.frames = more;
     }
+    next
+}
+
+// One more difference.
+pub fn differs(score: Score) -> Score {
+    let mut next = score;
+    next.differ = wrapping_add_u64(next.differ, 1);
     next
 }
 
@@ -68,11 +72,11 @@ fn print_frames(frames: &[u64; 17]) {
     }
 }
 
-pub fn print_tally(tally: Tally) {
-    let frames = tally.frames;
+pub fn print_score(score: Score) {
+    let frames = score.frames;
     print_frames(&frames);
-    io::print_decimal(1, tally.lines);
+    io::print_decimal(1, score.lines);
     print(b" answers replayed, ");
-    io::print_decimal(1, tally.differ);
+    io::print_decimal(1, score.differ);
     print(b" differ\n");
 }
