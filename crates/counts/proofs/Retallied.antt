@@ -23,7 +23,7 @@ length-retallied [] before after = refl
 length-retallied (t ∷ ts) before after = ap suc (length-retallied ts (drop 4096 before) (drop 4096 after))
 
 -- a memory that stays leaves them
-pub retally-same : (n t : ℕ) → t < 65536 → retally n n t ≡ t
+retally-same : (n t : ℕ) → t < 65536 → retally n n t ≡ t
 unfolding retally
 retally-same n t h = omega arith
 

@@ -5,10 +5,8 @@ use crate::parts::replace_short;
 ghost use mathlib.Core.Path.{_≡_};
 ghost use mathlib.Core.List.{[]};
 ghost use Prim.Native.Nat.{_+_, _*_, _≤_, _<_, min};
-ghost use lib.ListN.{length, getD, set};
+ghost use lib.ListN.{length};
 ghost use Rattle.lists.specs.Lists.{digits};
-ghost use Rattle.counts.specs.Counts.{differs};
-ghost use Rattle.counts.specs.Tallies.{retally};
 ghost use Rattle.memory.specs.declared.Store.the-variants.{Byte, Block, Sector, File};
 ghost use Rattle.memory.specs.Memory.{stored, withCount, Tallied, Fits};
 
@@ -28,21 +26,6 @@ fn word_bytes(word: u64) -> [u8; 8]
     ]
 }
 
-// The tally of a byte's stretch. Most bytes that are stored were in use and stay so: their tally is not touched.
-fn note_byte(tallies: &mut [u16], k: usize, old: u8, value: u8)
-    requires { ⌜ k < length (now tallies) ⌝ }
-    ensures { λ _. ⌜ now (tallies .exit)
-        ≡ set (now (tallies .entry)) k
-        (retally (differs old 255) (differs value 255) (getD (now (tallies .entry)) k 0)) ⌝ }
-{
-    let before = counts::byte_differs(old, 0xFF);
-    let after = counts::byte_differs(value, 0xFF);
-    if before == after {
-        return;
-    }
-    tallies[k] = counts::retally(tallies[k], before, after);
-}
-
 pub fn put_byte(memory: &mut [u8], place: usize, value: u8, tallies: &mut [u16]) -> u32
     requires { ⌜ Tallied (length (now memory)) (now tallies) ⌝ }
     requires { ⌜ place < length (now memory) ⌝ }
@@ -51,7 +34,11 @@ pub fn put_byte(memory: &mut [u8], place: usize, value: u8, tallies: &mut [u16])
 {
     let old = memory[place];
     let k = place / 4096;
-    note_byte(tallies, k, old, value);
+    tallies[k] = counts::retally(
+        tallies[k],
+        counts::byte_differs(old, 0xFF),
+        counts::byte_differs(value, 0xFF),
+    );
     memory[place] = value;
     counts::byte_differs(old, value)
 }
