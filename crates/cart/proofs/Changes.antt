@@ -1,14 +1,13 @@
 -- What every call, import and restore keeps: each leaves the state, or the state with another chip record, or with
 -- another memory besides, whose tallies follow it. Assumes nothing.
 use mathlib.Core.Bool.{Bool}
-use mathlib.Core.List.{List, []}
+use mathlib.Core.List.{List}
 use mathlib.Core.Option.{Option, none, some}
 use Prim.Native.Nat.{ℕ}
 use lib.Dec.{eqb}
 use Rattle.lists.specs.Questions.{asked}
 use Rattle.lists.proofs.Bools.{either}
 use Rattle.kind.specs.declared.SaveType.{SaveType}
-use Rattle.eeprom.specs.Eeprom.{bitIn}
 use Rattle.cart.specs.declared.ChipRecord.{ChipRecord}
 use Rattle.cart.specs.Record.{State, Outcome}
 use Rattle.cart.specs.Calls.{Call, saveRead, saveWrite, eepromBeginDma, eepromWrite, eepromRead, loadSave, saveData, chipState, takeSaveDirty}

@@ -9,10 +9,9 @@ use lib.ListN.{length, replicate}
 use Rattle.lists.specs.Lists.{bit}
 use Rattle.lists.specs.Questions.{asked}
 use Rattle.lists.proofs.Questions.{all-yes}
-use Rattle.counts.specs.Tallies.{Words, retallied, talliesOf, blank, blankMemory, firstInUse, firstUsed, stretchOf, inUseNumber}
+use Rattle.counts.specs.Tallies.{Words, retallied, blank, firstInUse, inUseNumber}
 use Rattle.counts.proofs.Retallied.{retallied-same, retallied-again}
 use Rattle.counts.proofs.Answers.{first-is, blank-is}
-use Rattle.image.specs.declared.Answer.{Answer}
 use Rattle.image.specs.Image.{answered}
 use Rattle.kind.specs.declared.SaveType.{SaveType}
 use Rattle.kind.specs.declared.SaveType.the-variants.{None, Sram, Flash64, Flash128, Eeprom512, Eeprom8k}
@@ -165,6 +164,10 @@ module _ (ts : List ℕ) (s : State) where
   unfolding bytesLeft
   bytes-left-apart = ap (λ (o : Outcome). o .given) (apart chipState [] refl)
 
+  pub restored-apart : (b : List ℕ) → restore b (withTallies ts s) ≡ besideTallies ts (restore b s)
+  unfolding restore
+  restored-apart b = either-apart (eqb (asked (restoreQuestions b s)) 0) _ _
+
   -- as many others, passed
   module _ (e : length ts ≡ length (s .tallies)) where
     questions-many : (c : Call) (d : List ℕ) → questions c d (withTallies ts s) ≡ questions c d s
@@ -196,9 +199,9 @@ module _ (ts : List ℕ) (s : State) where
     either-many true x x′ y y′ p q = p
     either-many false x x′ y y′ p q = q
 
-    harmless : (c : Call) (d : List ℕ) → besideTallies [] (step c d (withTallies ts s)) ≡ besideTallies [] (step c d s)
+    called-harmless : (c : Call) (d : List ℕ) → besideTallies [] (step c d (withTallies ts s)) ≡ besideTallies [] (step c d s)
     unfolding step
-    harmless c d =
+    called-harmless c d =
         rw (questions-many c d)
         (either-many (eqb (asked (questions c d s)) 0) (counted s (accepted c d (withTallies ts s))) (counted s (accepted c d s)) _ _
         (ap (counted s) (accepted-many c d)) refl)
@@ -207,17 +210,18 @@ module _ (ts : List ℕ) (s : State) where
     unfolding importSave load
     imported-harmless f = rw e (either-many (eqb (asked (importQuestions f s)) 0) _ _ _ _ refl refl)
 
-  pub restored-apart : (b : List ℕ) → restore b (withTallies ts s) ≡ besideTallies ts (restore b s)
-  unfolding restore
-  restored-apart b = either-apart (eqb (asked (restoreQuestions b s)) 0) _ _
+    harmless : (a : Act) → besideTallies [] (act a (withTallies ts s)) ≡ besideTallies [] (act a s)
+    harmless (calls c d) = called-harmless c d
+    harmless (imports f) = imported-harmless f
+    harmless (restores b q) = ap (besideTallies []) (restored-apart b)
+    harmless (flags dirty) = refl
 
 pub stretches : Stretches
 stretches =
     record {
       reads = reads;
       changes = λ a s. changes s a;
-      harmless = λ ts c d s e. harmless ts s e c d;
-      importedHarmless = λ ts f s e. imported-harmless ts s e f;
+      harmless = λ ts a s e. harmless ts s e a;
       apart = λ ts c d s. apart ts s c d;
       restoredApart = λ ts b s. restored-apart ts s b;
     }

@@ -1,13 +1,13 @@
 -- Tallies after a call: as many as before, numbers of 16 bits, and right if they were. Assumes nothing.
-use mathlib.Core.Path.{_≡_, refl, sym, ap, _∙_}
+use mathlib.Core.Path.{_≡_, sym, ap, _∙_}
 use mathlib.Core.Bool.{Bool, true}
-use mathlib.Core.List.{List, []}
+use mathlib.Core.List.{List}
 use Prim.Native.Nat.{ℕ}
 use native.Mathlib.Omega.{arith}
 use lib.Dec.{eqb}
 use lib.ListN.{length}
 use borrow.Author.Tests.{eq-eqb}
-use Rattle.counts.specs.Tallies.{Words, retallied, talliesOf}
+use Rattle.counts.specs.Tallies.{Words, retallied}
 use Rattle.counts.proofs.Retallied.{length-retallied, words-retallied, retallied-same, retallied-again, tallies-kept, length-tallies, words-tallies, tallies-blank}
 use Rattle.kind.specs.Kind.{tallyCount, memorySize, detectSaveType}
 use Rattle.memory.specs.Memory.{erased}
@@ -35,12 +35,6 @@ fit-memory s dirty c m f =
 
 pub fit-step : (c : Call) (d : List ℕ) (s : State) → Fit s → Fit (step c d s .next)
 fit-step c d s f = step-keeps Fit fit-chip fit-memory c d s f
-
-pub fit-restore : (b : List ℕ) (s : State) → Fit s → Fit (restore b s .next)
-fit-restore b s f = restore-keeps Fit fit-chip fit-memory b s f
-
-pub fit-import : (f : List ℕ) (s : State) → Fit s → Fit (importSave f s .next)
-fit-import f s k = import-keeps Fit fit-chip fit-memory f s k
 
 -- question 16 is answered yes
 pub tallies-fit : (s : State) → Fit s → eqb (length (s .tallies)) (tallyCount (s .cart .kind)) ≡ true

@@ -77,10 +77,8 @@ pub record Stretches : Type 0 where
   pub changes : (a : Act) (s : State) → Words (s .tallies)
       → act a s .next .tallies ≡ retallied (s .memory) (act a s .next .memory) (s .tallies)
   -- nothing but the tallies depends on their values: as many others give the same answers, record and memory
-  pub harmless : (ts : List ℕ) (c : Call) (d : List ℕ) (s : State) → length ts ≡ length (s .tallies)
-      → besideTallies [] (step c d (withTallies ts s)) ≡ besideTallies [] (step c d s)
-  pub importedHarmless : (ts f : List ℕ) (s : State) → length ts ≡ length (s .tallies)
-      → besideTallies [] (importSave f (withTallies ts s)) ≡ besideTallies [] (importSave f s)
+  pub harmless : (ts : List ℕ) (a : Act) (s : State) → length ts ≡ length (s .tallies)
+      → besideTallies [] (act a (withTallies ts s)) ≡ besideTallies [] (act a s)
   -- a call that is not passed the tallies does the same whatever they are, and leaves them
   pub apart : (ts : List ℕ) (c : Call) (d : List ℕ) (s : State) → takesTallies c ≡ false
       → step c d (withTallies ts s) ≡ besideTallies ts (step c d s)

@@ -105,7 +105,14 @@ pub extern "C" fn gbasave_import_save(
     kept: &mut u32,
     changed: &mut u32,
 ) -> u32
-    ensures { λ x. ⌜ (x, now (cart .exit), now (memory .exit), now (tallies .exit), now (kept .exit), now (changed .exit))
+    ensures { λ x. ⌜ (
+      x,
+      now (cart .exit),
+      now (memory .exit),
+      now (tallies .exit),
+      now (kept .exit),
+      now (changed .exit),
+    )
         ≡ imports (now (file .entry)) (now (cart .entry)) (now (memory .entry)) (now (tallies .entry))
         (now (kept .entry)) (now (changed .entry)) ⌝ }
 {

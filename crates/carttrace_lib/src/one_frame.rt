@@ -82,7 +82,8 @@ pub fn play(
 ) -> Played
     requires { ⌜ longestLine ≤ length (now out) ⌝ }
     ensures { λ r. ⌜ (r, now (memory .exit), now (tallies .exit), now (out .exit))
-        ≡ shown (play·spec frame (tallied cart (now (memory .entry)) (now (tallies .entry)))) (now (out .entry)) ⌝ }
+        ≡ shown (play·spec frame (tallied cart (now (memory .entry)) (now (tallies .entry))))
+        (now (out .entry)) ⌝ }
 {
     match frame {
         Frame::SaveRead(address) => show_value(byte_calls::save_read(cart, memory, address), out),

@@ -65,7 +65,8 @@ pub fn eeprom_write_lent(
     value: u16,
 ) -> LentReply
     ensures { λ r. ⌜ (r, now (chip .exit), now (memory .exit), now (tallies .exit))
-        ≡ apart (plainCall len kind part dirty (now (chip .entry)) (now (memory .entry)) (now (tallies .entry)) value) ⌝ }
+        ≡ apart (plainCall len kind part dirty (now (chip .entry))
+        (now (memory .entry)) (now (tallies .entry)) value) ⌝ }
 {
     let next = eeprom_write_chip(*chip, len, kind, part, dirty, memory, tallies, value);
     *chip = next.chip;

@@ -30,7 +30,9 @@ pub fn put_byte(memory: &mut [u8], place: usize, value: u8, tallies: &mut [u16])
     requires { ⌜ Tallied (length (now memory)) (now tallies) ⌝ }
     requires { ⌜ place < length (now memory) ⌝ }
     ensures { λ r. ⌜ (r, now (memory .exit), now (tallies .exit))
-        ≡ withCount (now (memory .entry)) (stored (Byte place value) [] (now (memory .entry))) (now (tallies .entry)) ⌝ }
+        ≡ withCount (now (memory .entry))
+        (stored (Byte place value) [] (now (memory .entry)))
+        (now (tallies .entry)) ⌝ }
 {
     let old = memory[place];
     let k = place / 4096;
@@ -48,7 +50,9 @@ pub fn put_block(memory: &mut [u8], block: usize, word: u64, tallies: &mut [u16]
     requires { ⌜ Tallied (length (now memory)) (now tallies) ⌝ }
     requires { ⌜ 8 * block + 8 ≤ length (now memory) ⌝ }
     ensures { λ r. ⌜ (r, now (memory .exit), now (tallies .exit))
-        ≡ withCount (now (memory .entry)) (stored (Block block word) [] (now (memory .entry))) (now (tallies .entry)) ⌝ }
+        ≡ withCount (now (memory .entry))
+        (stored (Block block word) [] (now (memory .entry)))
+        (now (tallies .entry)) ⌝ }
 {
     let start = 8 * block;
     let end = start + 8;
@@ -64,7 +68,9 @@ pub fn erase_sector(memory: &mut [u8], place: usize, tallies: &mut [u16]) -> u32
     requires { ⌜ Tallied (length (now memory)) (now tallies) ⌝ }
     requires { ⌜ Fits (Sector place) (length (now memory)) ⌝ }
     ensures { λ r. ⌜ (r, now (memory .exit), now (tallies .exit))
-        ≡ withCount (now (memory .entry)) (stored (Sector place) [] (now (memory .entry))) (now (tallies .entry)) ⌝ }
+        ≡ withCount (now (memory .entry))
+        (stored (Sector place) [] (now (memory .entry)))
+        (now (tallies .entry)) ⌝ }
 {
     let k = place / 4096;
     let start = k * 4096;
@@ -85,7 +91,9 @@ pub fn load(memory: &mut [u8], file: &[u8], tallies: &mut [u16]) -> u32
     requires { ⌜ Tallied (length (now memory)) (now tallies) ⌝ }
     requires { ⌜ length (now memory) ≤ 131072 ⌝ }
     ensures { λ r. ⌜ (r, now (memory .exit), now (tallies .exit))
-        ≡ withCount (now (memory .entry)) (stored File (now (file .entry)) (now (memory .entry))) (now (tallies .entry)) ⌝ }
+        ≡ withCount (now (memory .entry))
+        (stored File (now (file .entry)) (now (memory .entry)))
+        (now (tallies .entry)) ⌝ }
 {
     let mut changed: u32 = 0;
     let mut k = 0;

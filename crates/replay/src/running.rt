@@ -25,7 +25,7 @@ fn end_with(cart: Cartridge, memory: &[u8], out: &mut [u8])
     put_state(&mut out[middle..], state_calls::chip_state(cart));
 }
 
-pub fn run(
+fn run(
     image: &[u8],
     part: u32,
     list: &[u8],
@@ -66,4 +66,27 @@ pub fn run(
     }
     let end = at + call_list::ending_room(memory.len());
     end_with(cart, memory, &mut out[at..end]);
+}
+
+// An accepted replay, with tallies as many as the kind has.
+pub fn open_and_run(
+    image: &[u8],
+    part: u32,
+    list: &[u8],
+    memory: &mut [u8],
+    tallies: &mut [u16],
+    scratch: &mut [u8],
+    out: &mut [u8],
+)
+    requires { ⌜ asked (openQuestions (now image) part (now memory) (now tallies)) ≡ 0 ⌝ }
+    requires { ⌜ (byteWrites (items 0 (now list)) && usesEeprom (detectSaveType (now image))) ≡ false ⌝ }
+    requires { ⌜ length (now memory) ≤ length (now scratch) ⌝ }
+    requires { ⌜ room (items 0 (now list)) + endingRoom (length (now memory)) ≤ length (now out) ⌝ }
+    ensures { λ _. ⌜ (now (memory .exit), now (out .exit))
+        ≡ shownBy (uncutRun (items 0 (now (list .entry))) (fresh·spec (now (image .entry)) (partOf part)))
+        (now (out .entry)) ⌝ }
+{
+    let opened = state_calls::from_number(image, part, memory, tallies);
+    let cart = opened.cart;
+    run(image, part, list, cart, memory, tallies, scratch, out);
 }

@@ -1,5 +1,5 @@
-// The calls by value on a whole record: opening, `chip_state`, restore, `take_save_dirty`, the EEPROM questions, and what
-// the tallies tell.
+// The calls by value on a whole record: opening, `chip_state`, restore, `take_save_dirty`, the EEPROM questions,
+// and what the tallies tell.
 
 use cart::Cartridge;
 use cart::Reply;
@@ -57,7 +57,8 @@ pub fn from_number(image: &[u8], part: u32, memory: &mut [u8], tallies: &mut [u1
 
 pub fn from_bytes(image: &[u8], part: Part, memory: &mut [u8], tallies: &mut [u16]) -> Reply
     ensures { λ r. ⌜ (r, now (memory .exit), now (tallies .exit))
-        ≡ storeReplied (fromBytes (now (image .entry)) (partNumber part) (now (memory .entry)) (now (tallies .entry))) ⌝ }
+        ≡ storeReplied (fromBytes (now (image .entry)) (partNumber part)
+        (now (memory .entry)) (now (tallies .entry))) ⌝ }
 {
     from_number(image, part::part_number(part) as u32, memory, tallies)
 }

@@ -1,9 +1,9 @@
--- `replay::exported::open_and_run` meets its contract. Assumes nothing.
+-- `replay::running::open_and_run` meets its contract. Assumes nothing.
 use native.Mathlib.Omega.{arith}
 use Rattle.replay.proofs.Whole.{opens-alike, opened-fresh}
 use borrow.Author.Needs.{needs}
-use Rattle.replay.proofs.exported.open_and_run.Statement.{statement}
-use Rattle.replay.proofs.exported.open_and_run.Tie as tie
+use Rattle.replay.proofs.running.open_and_run.Statement.{statement}
+use Rattle.replay.proofs.running.open_and_run.Tie as tie
 
 run-requires : tie.Need-run-requires
 run-requires c κs =
