@@ -21,7 +21,7 @@ use Rattle.eeprom.specs.declared.EepromPhase.the-variants.{Opcode, ReadAddress,
 use Rattle.eeprom.specs.Eeprom.{byPhase, wOf, countLimit}
 use Rattle.eeprom.proofs.Sound.{Sound as EepromSound, block-1024, count-64}
 use Rattle.cart.specs.declared.ChipRecord.{ChipRecord}
-use Rattle.cart.specs.ChipState.{phaseNumber, phaseOf, chipBytes, chipOf, fieldQuestions, stateQuestions}
+use Rattle.cart.specs.ChipState.{phaseNumber, phaseOf, chipBytes, chipOf, fieldQuestions}
 
 pub phase-le : (p : EepromPhase) → leb (phaseNumber p) 6 ≡ true
 phase-le Opcode = refl
@@ -70,14 +70,6 @@ chip-allowed c f s =
         ),
       ),
     )
-
--- a record's own bytes are 18
-pub own-size : (c : ChipRecord) → length (chipBytes c) ≡ 18
-unfolding chipBytes lowFirst
-own-size c = refl
-
-pub own-questions : (c : ChipRecord) → asked (fieldQuestions (chipBytes c)) ≡ 0 → asked (stateQuestions (chipBytes c)) ≡ 0
-own-questions c e = rw (own-size c) e
 
 -- what restore takes a record's 18 bytes for
 pub chip-back : (c : ChipRecord) → c .eeprom .acc < 2 ^ 64 → chipOf (chipBytes c) ≡ c

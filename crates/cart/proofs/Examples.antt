@@ -20,6 +20,7 @@ use Rattle.flash.specs.Flash.{stateAllowed}
 use Rattle.eeprom.specs.Eeprom.{widthAllowed, w, readBit, afterRead}
 use Rattle.byte_step.specs.ByteStep.{readByte, writeStep}
 use Rattle.cart.specs.ChipState.{phaseOf, chipBytes, chipOf, fieldQuestions}
+use Rattle.cart.specs.States.{stateBytes}
 use Rattle.cart.specs.Record.{State, refused, recordAllowed, freshCart, fresh, fromBytes}
 use Rattle.cart.specs.Calls.{saveRead, saveWrite, eepromWrite, eepromRead, loadSave, saveData, chipState, takeSaveDirty, chipWith, stateWith, readSave, writeSave, load, fileOf, questions, accepted, step, restore, importSave, usesEepromOf, eepromWindowStart, isBlank, inUse}
 use Rattle.cart.specs.Stretches.{withTallies}
@@ -49,7 +50,10 @@ record Refusals : Type 0 where
   first : step (saveWrite 0 0) [] (longer (spoiled plain)) .refusal ≡ 2
   open3 : fromBytes sram 0 [] [] ≡ refused 3 (record { cart = freshCart 0 None Usual; memory = []; tallies = [] }) []
   kind4 : step (eepromWrite 0) [] plain .refusal ≡ 4
-  state : (restored [] ≡ 6) × (restored (replicate 19 0) ≡ 6) × (restored (chip 9 0 0 0 0) ≡ 8) × (restored (chip 0 2 0 0 0) ≡ 9)
+  state : (restored [] ≡ 6) × (restored (replicate 19 0) ≡ 6) × (restored (replicate 21 0) ≡ 6) × (restored (chip 9 0 0 0 0) ≡ 8) × (restored (chip 0 2 0 0 0) ≡ 9)
+  -- 17 before 7, also where byte 18 is wrong; 18 after 12
+  layout17 : (restored (chip 0 0 0 0 0 ++ (0 ∷ 1 ∷ [])) ≡ 17) × (restored (chip 0 0 7 0 0 ++ (2 ∷ 3 ∷ [])) ≡ 17) × (restored (chip 0 0 7 0 0 ++ (2 ∷ 2 ∷ [])) ≡ 7)
+  flag18 : (restored (chip 0 0 0 0 0 ++ (2 ∷ 2 ∷ [])) ≡ 18) × (restored (chip 0 0 3 64 0 ++ (2 ∷ 2 ∷ [])) ≡ 12) × (restored (chip 0 0 0 0 0 ++ (1 ∷ 2 ∷ [])) ≡ 0)
   width10 : restored (replicate 3 0 ++ (7 ∷ replicate 14 0)) ≡ 10
   room13 : step saveData (replicate 511 7) eeprom .refusal ≡ 13
   import14 : importSave (replicate 513 0) eeprom .refusal ≡ 14
@@ -67,7 +71,7 @@ record Refusals : Type 0 where
   before15 : fromBytes (replicate 192 0) 6 [] (0 ∷ []) .refusal ≡ 16
 
 refusals : Refusals
-unfolding lowFirst erased imageLength begins stands detectSaveType partOf partFits chipSize eepromFit saveFit keptPart stateAllowed widthAllowed w phaseOf chipBytes chipOf fieldQuestions recordAllowed freshCart fresh fromBytes fileOf questions accepted step restore importSave isBlank inUse
+unfolding lowFirst erased imageLength begins stands detectSaveType partOf partFits chipSize eepromFit saveFit keptPart stateAllowed widthAllowed w phaseOf chipBytes chipOf fieldQuestions stateBytes recordAllowed freshCart fresh fromBytes fileOf questions accepted step restore importSave isBlank inUse
 refusals =
     record {
       record2 = (refl, refl, refl);
@@ -76,7 +80,9 @@ refusals =
       first = refl;
       open3 = refl;
       kind4 = refl;
-      state = (refl, refl, refl, refl);
+      state = (refl, refl, refl, refl, refl);
+      layout17 = (refl, refl, refl);
+      flag18 = (refl, refl, refl);
       width10 = refl;
       room13 = refl;
       import14 = refl;
@@ -91,6 +97,9 @@ refusals =
       before15 = refl;
     }
 
+abbrev flagged : State
+flagged = chipWith plain true (plain .cart .chip)
+
 -- kind None reads FFh, has no file and is blank; an EEPROM's first stretch in use after a byte write; the file of 512 bytes into a destination of 513; an import with its footer; a byte write to an
 -- EEPROM, which sets no flag; the flag taken; Reading on a kind without EEPROM
 record Answers : Type 0 where
@@ -100,12 +109,15 @@ record Answers : Type 0 where
   export : (step saveData (replicate 513 7) eeprom .given ≡ 512 ∷ []) × (step saveData (replicate 513 7) eeprom .destination ≡ replicate 512 0xff ++ (7 ∷ []))
   imported : importSave (replicate 528 1) eeprom .given ≡ 512 ∷ []
   byte : (step (saveWrite 8195 9) [] eeprom .next .cart .dirty ≡ false) × (step (saveRead 3) [] (step (saveWrite 8195 9) [] eeprom .next) .given ≡ 9 ∷ [])
-  taken : (step takeSaveDirty [] (chipWith plain true (plain .cart .chip)) .flag ≡ true) × (step takeSaveDirty [] (chipWith plain true (plain .cart .chip)) .next ≡ plain)
+  -- a fresh cartridge's state, its flag set; 18 bytes leave the flag, 20 bring it
+  state : step chipState [] flagged .given ≡ chip 0 0 0 0 0 ++ (1 ∷ 2 ∷ [])
+  flag : (restore (chip 0 0 0 0 0) flagged .next .cart .dirty ≡ true) × (restore (chip 0 0 0 0 0 ++ (0 ∷ 2 ∷ [])) flagged .next .cart .dirty ≡ false)
+  taken : (step takeSaveDirty [] flagged .flag ≡ true) × (step takeSaveDirty [] flagged .next ≡ plain)
   reading : (step eepromRead [] (restore (chip 0 0 6 0 0) plain .next) .given ≡ 0 ∷ []) × (step eepromRead [] (restore (replicate 5 0 ++ (6 ∷ (replicate 3 0 ++ (4 ∷ replicate 8 0)))) plain .next) .given ≡ 1 ∷ [])
   window : (eepromWindowStart (freshCart 16777216 None Usual) .value ≡ 0x0d000000) × (eepromWindowStart (freshCart 16777217 None Usual) .value ≡ 0x0dffff00) × (usesEepromOf (plain .cart) .value ≡ 0) × (usesEepromOf (eeprom .cart) .value ≡ 1)
 
 answers : Answers
-unfolding used retally retallied blank firstInUse into lowFirst erased stored filled imageLength begins stands detectSaveType partOf partFits chipSize eepromFit saveFit keptPart stateAllowed widthAllowed w readBit afterRead phaseOf chipBytes chipOf fieldQuestions recordAllowed freshCart fresh fromBytes readByte writeStep readSave writeSave load fileOf questions accepted step restore importSave usesEepromOf eepromWindowStart isBlank inUse
+unfolding used retally retallied blank firstInUse into lowFirst erased stored filled imageLength begins stands detectSaveType partOf partFits chipSize eepromFit saveFit keptPart stateAllowed widthAllowed w readBit afterRead phaseOf chipBytes chipOf fieldQuestions stateBytes recordAllowed freshCart fresh fromBytes readByte writeStep readSave writeSave load fileOf questions accepted step restore importSave usesEepromOf eepromWindowStart isBlank inUse
 answers =
     record {
       none = (refl, refl, refl);
@@ -114,6 +126,8 @@ answers =
       export = (refl, refl);
       imported = refl;
       byte = (refl, refl);
+      state = refl;
+      flag = (refl, refl);
       taken = (refl, refl);
       reading = (refl, refl);
       window = (refl, refl, refl, refl);

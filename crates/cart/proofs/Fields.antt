@@ -7,10 +7,8 @@ use native.Mathlib.Omega.{arith}
 use lib.Dec.{ltb, leb, eqb}
 use lib.ListN.{length, getD, drop, length-drop}
 use lib.Seq.{take-all}
-use borrow.Author.Tests.{eqb-true, ltb-true, leb-true, le-leb}
+use borrow.Author.Tests.{ltb-true, leb-true, le-leb}
 use Rattle.lists.specs.Lists.{lowFirst, lowValue}
-use Rattle.lists.specs.Questions.{asked}
-use Rattle.lists.proofs.Questions.{yes-all}
 use Rattle.lists.proofs.Bools.{and-left, and-right, bit-le, bit-back}
 use Rattle.lists.proofs.Parts.{spelled, spells}
 use Rattle.image.specs.Image.{imageLength}
@@ -19,7 +17,7 @@ use Rattle.eeprom.specs.Eeprom.{widthAllowed, w, wOf, countLimit}
 use Rattle.eeprom.proofs.Sound.{limit-64}
 use Rattle.eeprom.proofs.Allowed.{w-le}
 use Rattle.cart.specs.declared.ChipRecord.{ChipRecord}
-use Rattle.cart.specs.ChipState.{chipBytes, fieldQuestions, stateQuestions}
+use Rattle.cart.specs.ChipState.{chipBytes, fieldQuestions}
 use Rattle.cart.specs.declared.Cartridge.{Cartridge}
 use Rattle.part.specs.Part.{partFits}
 use Rattle.cart.specs.Record.{chipAllowed, recordAllowed}
@@ -104,11 +102,3 @@ allowed-bounds c h =
       blockOk = omega (arith, leb-true (e .block) 1023 (and-left k (p && l) y4));
       placeOk = omega (arith, leb-true (e .place) 67 (and-left p l y5));
     }
-
--- what restore takes: 18 bytes, and their fields allowed
-pub state-size : (b : List ℕ) → asked (stateQuestions b) ≡ 0 → length b ≡ 18
-unfolding fieldQuestions
-state-size b e = eqb-true (length b) 18 (yes-all (stateQuestions b) refl e .0)
-
-pub state-fields : (b : List ℕ) → asked (stateQuestions b) ≡ 0 → asked (fieldQuestions b) ≡ 0
-state-fields b e = sym (rw (state-size b e)) ∙ e

@@ -6,9 +6,10 @@ use mathlib.Core.List.{List, []}
 use mathlib.Core.Option.{Option, none, some}
 use Prim.Native.Nat.{ℕ, _%_}
 use lib.Dec.{eqb}
-use lib.ListN.{length}
+use lib.ListN.{length, getD}
+use borrow.Author.Tests.{eqb-false}
 use Rattle.lists.specs.Questions.{Question, asked}
-use Rattle.lists.proofs.Bools.{either}
+use Rattle.lists.proofs.Bools.{split, either}
 use Rattle.memory.specs.Memory.{stores}
 use Rattle.kind.specs.declared.SaveType.{SaveType}
 use Rattle.byte_step.specs.ByteStep.{writeStep}
@@ -51,12 +52,21 @@ stays c d s n h =
 leaves : (qs : List Question) (d : List ℕ) (s : State) (o : Outcome) → o .next .cart .dirty ≡ s .cart .dirty → guarded qs d s o .next .cart .dirty ≡ s .cart .dirty
 leaves qs d s o h = either (λ (r : Outcome). r .next .cart .dirty ≡ s .cart .dirty) (eqb (asked qs) 0) h refl
 
+-- a restore of layout 2 that is accepted
+restored : (b : List ℕ) (s : State) → restore b s .refusal ≡ 0 → length b ≡ 20 → restore b s .next .cart .dirty ≡ eqb (getD b 18 0) 1
+unfolding restore
+restored b s h l =
+    split (λ (o : Outcome). o .refusal ≡ 0 → o .next .cart .dirty ≡ eqb (getD b 18 0) 1) (eqb (asked (restoreQuestions b s)) 0) (λ e z. rw l)
+    (λ e z. absurd (eqb-false (asked (restoreQuestions b s)) 0 e z))
+    h
+
 pub flag-kept : FlagKept
 unfolding step accepted load restore importSave
 flag-kept =
     record {
       stays = stays;
       load = λ f d s. leaves (questions (loadSave f) d s) d s (counted s (accepted (loadSave f) d s)) refl;
-      restored = λ b s. leaves (restoreQuestions b s) [] s _ refl;
+      restored = restored;
+      restoredOld = λ b s l. leaves (restoreQuestions b s) [] s _ (rw l);
       imported = λ f s. leaves (importQuestions f s) [] s _ refl;
     }

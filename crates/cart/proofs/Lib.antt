@@ -1,4 +1,5 @@
 pub mod ChipState
+pub mod Layouts
 pub mod Fields
 pub mod Replies
 pub mod Sound

@@ -15,6 +15,7 @@ use Rattle.flash.specs.declared.Flash.{Flash}
 use Rattle.byte_step.specs.ByteStep.{readByte}
 use Rattle.eeprom.specs.Eeprom.{bitIn}
 use Rattle.cart.specs.declared.ChipRecord.{ChipRecord}
+use Rattle.cart.specs.States.{stateBytes}
 use Rattle.cart.specs.Record.{State, Outcome, outcome, counted, recordAllowed, freshCart, fresh}
 use Rattle.cart.specs.Calls.{Call, saveRead, saveWrite, eepromBeginDma, eepromWrite, eepromRead, loadSave, saveData, chipState, takeSaveDirty}
 use Rattle.cart.specs.Calls.{chipWith, stateWith, readSave, writeSave, load, fileOf, exported, questions, accepted, step}
@@ -112,7 +113,7 @@ module _ (p : Part) (s : State) where
   questions-same takeSaveDirty d e = rw e
 
   accepted-same : (c : Call) (d : List ℕ) → ((a : ℕ) → c ≡ saveRead a → s .cart .chip .flash .id ≡ false) → accepted c d (withPart p s) ≡ outcomeWith p (accepted c d s)
-  unfolding accepted load readSave bitIn
+  unfolding accepted load readSave bitIn stateBytes
   accepted-same (saveRead a) d n =
       ap (λ (v : ℕ). outcome (v ∷ []) (withPart p s) d) (read-same (s .cart .kind) (s .cart .part) (s .cart .chip .flash) (s .memory) a (n a refl))
   accepted-same (saveWrite a v) d n = ap (λ (t : State). outcome [] t d) (write-same (s .cart .kind) a v)

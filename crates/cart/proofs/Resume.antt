@@ -28,14 +28,15 @@ use Rattle.eeprom.specs.declared.EepromPhase.the-variants.{Opcode, ReadAddress,
 use Rattle.eeprom.specs.Eeprom.{widthAllowed, w, wOf, countLimit, told}
 use Rattle.eeprom.proofs.Sound as eeprom
 use Rattle.cart.specs.declared.ChipRecord.{ChipRecord}
-use Rattle.cart.specs.ChipState.{chipBytes, stateQuestions}
+use Rattle.cart.specs.States.{stateBytes, flagFrom, stateQuestions}
 use Rattle.cart.specs.Record.{State, Outcome, outcome, chipAllowed, recordAllowed, fresh, freshCart, fromBytes}
 use Rattle.cart.specs.Calls.{Call, saveWrite, loadSave, saveData, chipState, stateWith, load, eepromFile, fileOf, exported, holds, questions, accepted, step, restore}
 use Rattle.cart.specs.Counts.{storeOf}
-use Rattle.cart.specs.Cut.{fileIn, fileLeft, bytesLeft, reloaded, resumed, cut}
+use Rattle.cart.specs.Cut.{fileIn, fileLeft, bytesLeft, Carried, eighteen, twenty, carried, reloaded, resumed, cut}
 use Rattle.cart.specs.Gbatek.{calls}
-use Rattle.cart.specs.Resume.{Open, withFlag, Resumes}
-use Rattle.cart.proofs.ChipState.{chip-allowed, own-questions, chip-back}
+use Rattle.cart.specs.Resume.{Open, withFlag, flagOf, Resumes}
+use Rattle.cart.proofs.ChipState.{chip-allowed}
+use Rattle.cart.proofs.Layouts.{own-questions, own-restored, own-flag, old-flag}
 use Rattle.cart.proofs.Fields.{chip-fields}
 use Rattle.cart.proofs.Sound.{Sound, record-allowed, memory-fits, step-accepted, sound-fresh, opened, eeprom-size}
 use Rattle.cart.proofs.Tallies.{Fit, tallies-fit, tallies-stay, right-memory, right-fresh, right-fit}
@@ -43,7 +44,7 @@ use Rattle.cart.proofs.Restore.{restoring, restore-accepted}
 use Rattle.cart.proofs.Recoverable.{Recoverable, recoverable-step, recoverable-fresh}
 use Rattle.cart.proofs.Counts.{accepted-kept}
 
--- what a cut leaves: the file and the 18 bytes
+-- what a cut leaves: the file and the state
 eeprom-file-le : (s : State) → length (eepromFile s) ≤ length (s .memory)
 eeprom-file-le s = simp length-take (omega arith)
 
@@ -66,7 +67,7 @@ pub export-accepted : (d : List ℕ) (s : State) → recordAllowed (s .cart) ≡
 unfolding questions accepted storeOf
 export-accepted d s a b e = step-accepted saveData d s (a, (b, (file-fits (s .cart .kind) s d e, tt))) ∙ accepted-kept saveData d s refl
 
-pub state-accepted : (s : State) → recordAllowed (s .cart) ≡ true → step chipState [] s ≡ outcome (chipBytes (s .cart .chip)) s []
+pub state-accepted : (s : State) → recordAllowed (s .cart) ≡ true → step chipState [] s ≡ outcome (stateBytes (s .cart)) s []
 unfolding questions accepted storeOf
 state-accepted s a = step-accepted chipState [] s (a, tt) ∙ accepted-kept chipState [] s refl
 
@@ -77,7 +78,7 @@ file-left s a b =
     ap (λ (o : Outcome). fileIn (o .given) (o .destination)) (export-accepted d s a b (simp length-replicate (omega arith)))
     ∙ file-in (fileOf (s .cart .kind) s) d s
 
-pub bytes-left : (s : State) → recordAllowed (s .cart) ≡ true → bytesLeft s ≡ chipBytes (s .cart .chip)
+pub bytes-left : (s : State) → recordAllowed (s .cart) ≡ true → bytesLeft s ≡ stateBytes (s .cart)
 unfolding bytesLeft
 bytes-left s a = ap (λ (o : Outcome). o .given) (state-accepted s a)
 
@@ -208,27 +209,33 @@ acc-lt s k =
     let n : e .count ≤ 64 = omega (arith, eeprom.count-64 e (k .eepromOk)) in
     omega (arith, pow-mono n, k .eepromOk .serialOk .accOk)
 
--- the state s made anew of a cartridge of the image, whose flag stays
-pub resumed-is : (image : List ℕ) (part : ℕ) (s t : State) → Recoverable image part s → Open image part t → resumed s t ≡ withFlag (t .cart .dirty) s
-resumed-is image part s t r q =
+-- the flag that the state of s leaves in a cartridge like t
+flag-left : (v : Carried) (s t : State) → flagFrom (carried v (stateBytes (s .cart))) (t .cart .dirty) ≡ flagOf v s t
+flag-left eighteen s t = old-flag (s .cart) (t .cart .dirty)
+flag-left twenty s t = own-flag (s .cart) (t .cart .dirty)
+
+-- the state s made anew of a cartridge of the image
+pub resumed-is : (image : List ℕ) (part : ℕ) (v : Carried) (s t : State) → Recoverable image part s → Open image part t → resumed v s t ≡ withFlag (flagOf v s t) s
+resumed-is image part v s t r q =
     let k = r .sound in
     let a = record-allowed s k in
-    let b : List ℕ = chipBytes (s .cart .chip) in
+    let b : List ℕ = carried v (stateBytes (s .cart)) in
     let kind : SaveType = detectSaveType image in
     let o : Option (List ℕ) = fileOf kind s in
     let x = loaded o t (q .allowed) (eq-eqb _ _ (q .memoryOk)) (right-fit t (q .talliesOk)) in
-    let c = chip-back (s .cart .chip) (acc-lt s k) in
+    let c = own-restored v (s .cart) (acc-lt s k) in
+    let g = flag-left v s t in
     let m = memory-back image part s r (t .memory) kind (r .kindIs) (q .memoryOk ∙ ap memorySize (q .kindIs)) in
     let ts =
     right-memory t (t .cart .dirty) (x .chip) (memoryFrom (t .memory) o) (q .talliesOk)
     ∙ ap₂ (λ (i : SaveType) (l : List ℕ). talliesOf (tallyCount i) l) (q .kindIs ∙ sym (r .kindIs)) m
     in
-    ap₂ (λ (l : List ℕ) (f : Option (List ℕ)). restore l (reloaded f t) .next) (bytes-left s a) (file-left s a (memory-fits s k) ∙ ap (λ (i : SaveType). fileOf i s) (r .kindIs))
-    ∙ restore-next b (reloaded o t) (x .allowed) (own-questions (s .cart .chip) (chip-allowed (s .cart .chip) (k .flashOk) (k .eepromOk)))
+    ap₂ (λ (l : List ℕ) (f : Option (List ℕ)). restore (carried v l) (reloaded f t) .next) (bytes-left s a) (file-left s a (memory-fits s k) ∙ ap (λ (i : SaveType). fileOf i s) (r .kindIs))
+    ∙ restore-next b (reloaded o t) (x .allowed) (own-questions v (s .cart) (chip-allowed (s .cart .chip) (k .flashOk) (k .eepromOk)))
     ∙ ap (restoring b) (x .is)
     ∙ (λ i.
     record {
-      cart = record { len = (q .lenIs ∙ sym (r .lenIs)) i; kind = (q .kindIs ∙ sym (r .kindIs)) i; part = (q .partIs ∙ sym (r .partIs)) i; dirty = t .cart .dirty; chip = c i };
+      cart = record { len = (q .lenIs ∙ sym (r .lenIs)) i; kind = (q .kindIs ∙ sym (r .kindIs)) i; part = (q .partIs ∙ sym (r .partIs)) i; dirty = g i; chip = c i };
       memory = m i;
       tallies = (ts ∙ sym (r .right)) i;
     })
@@ -238,16 +245,13 @@ unfolding fresh freshCart
 open-fresh image part k =
     record { lenIs = refl; kindIs = refl; partIs = refl; allowed = unfold fresh freshCart in record-allowed (fresh image (partOf part)) k; memoryOk = k .memoryOk; talliesOk = right-fresh image (partOf part) }
 
--- the state without its flag
-abbrev pub quiet : State → State
-quiet s = withFlag false s
-
--- a cut loses the flag, and nothing else
-pub cut-quiet : (image : List ℕ) (part : ℕ) (memory tallies : List ℕ) (s : State) → fromBytes image part memory tallies .refusal ≡ 0 → Recoverable image part s → cut image part memory tallies s ≡ quiet s
-unfolding cut fresh freshCart
-cut-quiet image part memory tallies s h r =
-    ap (λ (o : Outcome). resumed s (o .next)) (opened image part memory tallies h)
-    ∙ resumed-is image part s (fresh image (partOf part)) r (open-fresh image part (sound-fresh image part memory tallies h))
+-- a cut loses nothing, or, with the eighteen, the flag alone
+pub cut-is : (image : List ℕ) (part : ℕ) (memory tallies : List ℕ) (v : Carried) (s : State) → fromBytes image part memory tallies .refusal ≡ 0 → Recoverable image part s
+    → cut image part memory tallies v s ≡ withFlag (flagOf v s (fresh image (partOf part))) s
+unfolding cut
+cut-is image part memory tallies v s h r =
+    ap (λ (o : Outcome). resumed v s (o .next)) (opened image part memory tallies h)
+    ∙ resumed-is image part v s (fresh image (partOf part)) r (open-fresh image part (sound-fresh image part memory tallies h))
 
 -- after a list of calls
 recoverable-calls : (image : List ℕ) (part : ℕ) (list : List Call) (s : State)
@@ -260,10 +264,10 @@ recoverable-calls image part (c ∷ list) s n r =
     (recoverable-step image part c [] s (λ a v p. n a v (List·Memᴰ·head p)) r)
 
 pub resumes : Resumes
-resumes image part memory tallies list t h n q =
+resumes image part memory tallies list v t h n q =
     let s0 : State = fromBytes image part memory tallies .next in
     let s : State = calls list s0 .last in
     let r0 : Recoverable image part s0 = rw (opened image part memory tallies h) (recoverable-fresh image part memory tallies h) in
     let r : Recoverable image part s = recoverable-calls image part list s0 n r0 in
-    let e = resumed-is image part s t r q in
-    (e, e ∙ ap (withFlag (t .cart .dirty)) (sym (cut-quiet image part memory tallies s h r)))
+    let e = resumed-is image part v s t r q in
+    (e, e ∙ ap (withFlag (flagOf v s t)) (sym (cut-is image part memory tallies v s h r)))

@@ -22,7 +22,8 @@ use Rattle.eeprom.specs.declared.Eeprom.{Eeprom}
 use Rattle.eeprom.specs.Eeprom.{told, beginDma, dmaQuestion, bitIn, readBit, afterRead}
 use Rattle.cart.specs.declared.ChipRecord.{ChipRecord}
 use Rattle.cart.specs.declared.Cartridge.{Cartridge}
-use Rattle.cart.specs.ChipState.{chipBytes, chipOf, stateQuestions}
+use Rattle.cart.specs.ChipState.{chipOf}
+use Rattle.cart.specs.States.{stateBytes, eighteenOf, flagFrom, stateQuestions}
 use Rattle.cart.specs.Record.{State, Outcome, guarded, outcome, outcomeOf, counted}
 use Rattle.cart.specs.Record.{recordQuestion, memoryQuestion, tallyQuestion}
 
@@ -144,7 +145,7 @@ accepted eepromRead d s =
     (withChip s (afterRead (s .cart .chip .eeprom))) d
 accepted (loadSave f) d s = outcome [] (load s f) d
 accepted saveData d s = exported (fileOf (s .cart .kind) s) d s
-accepted chipState d s = outcome (chipBytes (s .cart .chip)) s d
+accepted chipState d s = outcome (stateBytes (s .cart)) s d
 accepted takeSaveDirty d s =
     outcomeOf 0 [] (s .cart .dirty) 0 (chipWith s false (s .cart .chip)) d
 
@@ -152,12 +153,14 @@ accepted takeSaveDirty d s =
 unfoldable pub step : Call → List ℕ → State → Outcome
 step c d s = guarded (questions c d s) d s (counted s (accepted c d s))
 
--- "Restore replaces the chip record alone."
+-- "Restore replaces the chip record alone." 02, ticket 5: with layout 2 the flag too
 abbrev pub restoreQuestions : List ℕ → State → List Question
 restoreQuestions b s = question2 s ∷ stateQuestions b
 
 unfoldable pub restore : List ℕ → State → Outcome
-restore b s = guarded (restoreQuestions b s) [] s (outcome [] (chipWith s (s .cart .dirty) (chipOf b)) [])
+restore b s =
+    guarded (restoreQuestions b s) [] s
+    (outcome [] (chipWith s (flagFrom b (s .cart .dirty)) (chipOf (eighteenOf b))) [])
 
 -- 14: "is the file's length one that `save_fit` takes for the record's kind?"; "import itself loads that part and
 -- answers its length"

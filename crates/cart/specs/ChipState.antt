@@ -1,9 +1,9 @@
--- The chip record as 18 bytes. Document 01, "The records", and question 6.
+-- The chip record as 18 bytes. Document 01, "The records", and questions 7 to 12.
 use mathlib.Core.Bool.{cond, _&&_}
 use mathlib.Core.List.{List, [], _∷_}
 use Prim.Native.Nat.{ℕ, _+_, _*_, _/_, _%_}
 use lib.Dec.{ltb, leb, eqb}
-use lib.ListN.{length, getD, drop}
+use lib.ListN.{getD, drop}
 use Rattle.lists.specs.Lists.{bit, lowFirst, lowValue}
 use Rattle.lists.specs.Questions.{Question, _else_}
 use Rattle.flash.specs.Flash.{stateAllowed}
@@ -23,6 +23,9 @@ phaseOf n =
     (cond (eqb n 1) ReadAddress
     (cond (eqb n 2) WriteAddress
     (cond (eqb n 3) WriteData (cond (eqb n 4) ReadStop (cond (eqb n 5) WriteStop Reading)))))
+
+abbrev pub chipRecordSize : ℕ
+chipRecordSize = 18
 
 -- "Chip record, as `chip_state` writes it"
 unfoldable pub chipBytes : ChipRecord → List ℕ
@@ -58,10 +61,3 @@ fieldQuestions b =
     ∷ (leb (getD b 6 0) 64 && leb (getD b 7 0 + 256 * getD b 8 0) 1023 && leb (getD b 9 0) 67) else 11
     ∷ ltb (getD b 6 0) (countLimit (phaseOf (getD b 5 0)) (w (getD b 3 0) (eqb (getD b 4 0) 1))) else 12
     ∷ []
-
--- "18 bytes? No: 6.", which only restore asks
-abbrev pub stateSize : ℕ
-stateSize = 18
-
-abbrev pub stateQuestions : List ℕ → List Question
-stateQuestions b = eqb (length b) stateSize else 6 ∷ fieldQuestions b

@@ -1,34 +1,51 @@
--- What is claimed of the 18 bytes, of the changed flag and of the part.
+-- What is claimed of a state's bytes, of the changed flag and of the part.
 use mathlib.Core.Path.{_≡_}
 use mathlib.Core.Logic.{_≢_}
-use mathlib.Core.Bool.{true, false}
-use mathlib.Core.List.{List, []}
+use mathlib.Core.Bool.{Bool, true, false}
+use mathlib.Core.List.{List, [], _∷_, _++_}
 use Prim.Native.Nat.{ℕ, _^_, _<_}
+use lib.Dec.{eqb}
+use lib.ListN.{length, getD}
 use lib.Pow.{areBytes}
+use Rattle.lists.specs.Lists.{bit}
 use Rattle.lists.specs.Questions.{FirstNo}
 use Rattle.part.specs.declared.Part.{Part}
 use Rattle.part.specs.Part.{partOf, partFits}
+use Rattle.cart.specs.declared.ChipRecord.{ChipRecord}
+use Rattle.cart.specs.ChipState.{chipRecordSize}
+use Rattle.cart.specs.States.{stateSize, flagAt, layoutNumber, eighteenOf}
 use Rattle.cart.specs.Record.{State, Outcome, outcomeOf, outcome, recordAllowed, fromBytes}
 use Rattle.cart.specs.Calls.{Call, saveRead, loadSave, chipState, takeSaveDirty}
-use Rattle.cart.specs.Calls.{restoreQuestions, step, restore, importSave}
+use Rattle.cart.specs.Calls.{chipWith, restoreQuestions, step, restore, importSave}
 
 -- demand 2: "Each record that `chip_state` writes is restored to itself; bytes that restore accepts are written
 -- back unchanged."
 pub record StateBytes : Type 0 where
-  pub restoresItself : (s : State) → recordAllowed (s .cart) ≡ true → s .cart .chip .eeprom .acc < 2 ^ 64
-      → restore (step chipState [] s .given) s ≡ outcome [] s []
+  -- whatever flag and chip record the cartridge had meanwhile; the eighteen alone leave its flag
+  pub restoresItself : (s : State) (dirty : Bool) (chip : ChipRecord)
+      → recordAllowed (s .cart) ≡ true → s .cart .chip .eeprom .acc < 2 ^ 64
+      → let t = chipWith s dirty chip in recordAllowed (t .cart) ≡ true
+      → (restore (step chipState [] s .given) t ≡ outcome [] s [])
+      × (restore (eighteenOf (step chipState [] s .given)) t ≡ outcome [] (chipWith s dirty (s .cart .chip)) [])
   pub writesBack : (b : List ℕ) (s : State) → areBytes b ≡ true → restore b s .refusal ≡ 0
-      → step chipState [] (restore b s .next) .given ≡ b
+      → length b ≡ stateSize → step chipState [] (restore b s .next) .given ≡ b
+  -- old files "come back unchanged as the first eighteen of the twenty"; the others are the flag, as it was, and the 2
+  pub writesBackOld : (b : List ℕ) (s : State) → areBytes b ≡ true → restore b s .refusal ≡ 0
+      → length b ≡ chipRecordSize
+      → step chipState [] (restore b s .next) .given ≡ b ++ (bit (s .cart .dirty) ∷ layoutNumber ∷ [])
   -- what restore refuses, it refuses with the first number that applies, and leaves the state
   pub refusesFirst : (b : List ℕ) (s : State) → restore b s .refusal ≢ 0
       → FirstNo (restoreQuestions b s) (restore b s .refusal) × (restore b s .next ≡ s)
 
--- no call but `take_save_dirty` clears the flag, and a load, a restore and an import leave it
+-- no call but `take_save_dirty` clears the flag, and a load and an import leave it; restore sets it from layout 2
 pub record FlagKept : Type 0 where
   pub stays : (c : Call) (d : List ℕ) (s : State) → c ≢ takeSaveDirty → s .cart .dirty ≡ true
       → step c d s .next .cart .dirty ≡ true
   pub load : (f d : List ℕ) (s : State) → step (loadSave f) d s .next .cart .dirty ≡ s .cart .dirty
-  pub restored : (b : List ℕ) (s : State) → restore b s .next .cart .dirty ≡ s .cart .dirty
+  pub restored : (b : List ℕ) (s : State) → restore b s .refusal ≡ 0 → length b ≡ stateSize
+      → restore b s .next .cart .dirty ≡ eqb (getD b flagAt 0) 1
+  pub restoredOld : (b : List ℕ) (s : State) → length b ≡ chipRecordSize
+      → restore b s .next .cart .dirty ≡ s .cart .dirty
   pub imported : (f : List ℕ) (s : State) → importSave f s .next .cart .dirty ≡ s .cart .dirty
 
 -- a state, and an outcome's, with another part

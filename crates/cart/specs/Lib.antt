@@ -1,4 +1,5 @@
 pub mod ChipState
+pub mod States
 pub mod Record
 pub mod Calls
 pub mod Replies

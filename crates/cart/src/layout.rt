@@ -1,8 +1,8 @@
-// The bytes of a chip record: how many they are, and where each field is.
+// The bytes of a chip record and of a state: how many they are, and where each field is.
 
-pub const STATE_SIZE: usize = 18;
+pub const CHIP_SIZE: usize = 18;
 
-pub type StateBytes = [u8; STATE_SIZE];
+pub type ChipBytes = [u8; CHIP_SIZE];
 
 pub const FLASH_STATE: usize = 0;
 
@@ -23,3 +23,14 @@ pub const BLOCK: usize = 7;
 pub const PLACE: usize = 9;
 
 pub const ACC: usize = 10;
+
+// A state of layout 2: the chip record, the changed flag, the layout's number.
+pub const STATE_SIZE: usize = 20;
+
+pub type StateBytes = [u8; STATE_SIZE];
+
+pub const FLAG: usize = 18;
+
+pub const LAYOUT: usize = 19;
+
+pub const LAYOUT_2: u8 = 2;

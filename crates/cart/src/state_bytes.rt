@@ -1,7 +1,7 @@
 // The chip record as bytes.
 use crate::ChipRecord;
 use crate::layout;
-use crate::layout::StateBytes;
+use crate::layout::ChipBytes;
 use eeprom::Eeprom;
 use eeprom::EepromPhase;
 use flash::Flash;
@@ -11,8 +11,7 @@ ghost use lib.Dec.{leb};
 ghost use lib.ListN.{length, drop};
 ghost use Rattle.lists.specs.Lists.{lowValue};
 ghost use Rattle.lists.specs.Questions.{asked};
-ghost use Rattle.cart.specs.ChipState.{phaseNumber, phaseOf, chipBytes, chipOf};
-ghost use Rattle.cart.specs.ChipState.{stateSize, fieldQuestions, stateQuestions};
+ghost use Rattle.cart.specs.ChipState.{chipRecordSize, phaseNumber, phaseOf, chipBytes, chipOf, fieldQuestions};
 
 pub fn phase_number(phase: EepromPhase) -> u8
     ensures { λ r. ⌜ r ≡ phaseNumber phase ⌝ }
@@ -42,7 +41,7 @@ fn phase_of(n: u8) -> EepromPhase
     }
 }
 
-pub fn chip_bytes(chip: ChipRecord) -> StateBytes
+pub fn chip_bytes(chip: ChipRecord) -> ChipBytes
     ensures { λ r. ⌜ r ≡ chipBytes chip ⌝ }
 {
     let flash = chip.flash;
@@ -72,7 +71,7 @@ pub fn chip_bytes(chip: ChipRecord) -> StateBytes
 
 // Bytes 10 to 17, low byte first.
 fn acc_of(b: &[u8]) -> u64
-    requires { ⌜ length (now b) ≡ stateSize ⌝ }
+    requires { ⌜ length (now b) ≡ chipRecordSize ⌝ }
     ensures { λ r. ⌜ r ≡ lowValue (drop 10 (now (b .entry))) ⌝ }
 {
     lists::low64(
@@ -93,7 +92,7 @@ fn acc_of(b: &[u8]) -> u64
 
 // Decodes the bytes of a valid chip record.
 pub fn chip_of(b: &[u8]) -> ChipRecord
-    requires { ⌜ length (now b) ≡ stateSize ⌝ }
+    requires { ⌜ length (now b) ≡ chipRecordSize ⌝ }
     ensures { λ r. ⌜ r ≡ chipOf (now (b .entry)) ⌝ }
 {
     ChipRecord {
@@ -117,7 +116,7 @@ pub fn chip_of(b: &[u8]) -> ChipRecord
 // Questions 7 to 12, about the fields: the first number that applies, or 0. A count that its phase allows is below 64:
 // so the limit is asked first, and the bound of 64 only of a count that is refused.
 pub fn field_questions(b: &[u8]) -> u8
-    requires { ⌜ length (now b) ≡ stateSize ⌝ }
+    requires { ⌜ length (now b) ≡ chipRecordSize ⌝ }
     ensures { λ r. ⌜ r ≡ asked (fieldQuestions (now (b .entry))) ⌝ }
 {
     if 6 < b[layout::PHASE] {
@@ -171,14 +170,4 @@ fn places_allowed(block: u16, place: u8) -> bool
         return false;
     }
     place <= 67
-}
-
-// Question 6, the length first: the first number that applies to a file's bytes, or 0.
-pub fn state_questions(b: &[u8]) -> u8
-    ensures { λ r. ⌜ r ≡ asked (stateQuestions (now (b .entry))) ⌝ }
-{
-    if b.len() != layout::STATE_SIZE {
-        return 6;
-    }
-    field_questions(b)
 }
