@@ -6,7 +6,7 @@ use mathlib.Core.List.{List, [], _∷_}
 use Prim.Native.Nat.{ℕ, zero, suc, _+_, _*_, _-_}
 use lib.Dec.{leb, eqb}
 use lib.ListN.{length, getD}
-use Rattle.cart.specs.ChipState.{stateSize}
+use Rattle.cart.specs.States.{stateSize}
 use Rattle.call_list.specs.declared.Item.{Item}
 use Rattle.call_list.specs.declared.Item.the-variants.{SaveRead, SaveWrite, EepromRead, EepromWrite, BeginDma}
 use Rattle.call_list.specs.declared.Item.the-variants.{TakeFlag, ChipState, LoadSave, SaveData, Cut, Bad}
@@ -57,7 +57,7 @@ itemRoom (SaveWrite a v) = 1
 itemRoom EepromRead = 2
 itemRoom (EepromWrite v) = 1
 itemRoom (BeginDma words) = 1
-itemRoom TakeFlag = 1
+itemRoom TakeFlag = 2
 itemRoom ChipState = 1 + stateSize
 itemRoom (LoadSave n) = 1
 itemRoom (SaveData n) = 5 + n

@@ -132,7 +132,7 @@ pub fn item_room(item: Item) -> usize
         Item::EepromRead => 2,
         Item::EepromWrite(_) => 1,
         Item::BeginDma(_) => 1,
-        Item::TakeFlag => 1,
+        Item::TakeFlag => 2,
         Item::ChipState => 1 + STATE_SIZE,
         Item::LoadSave(_) => 1,
         Item::SaveData(n) => 5 + n,

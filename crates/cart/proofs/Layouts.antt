@@ -98,7 +98,7 @@ module _ (b : List ℕ) (l : length b ≡ 20) (v : getD b 19 0 ≡ 2) where
 
 -- what is known of bytes that restore takes
 pub record Taken (b : List ℕ) : Type 0 where
-  pub size : length (eighteenOf b) ≡ 18
+  pub long : 18 ≤ length b
   pub fields : asked (fieldQuestions (eighteenOf b)) ≡ 0
   pub layout : length b ≡ 20 → getD b 19 0 ≡ 2
   pub flag : length b ≡ 20 → leb (getD b 18 0) 1 ≡ true
@@ -113,7 +113,7 @@ taken b e =
     let y = yes-all (stateQuestions b) refl e in
     let f = y .1 .1 in
     record {
-      size = length-take-le 18 b (either-length b (y .0));
+      long = either-length b (y .0);
       fields = all-yes (fieldQuestions (eighteenOf b)) (f .0, (f .1 .0, (f .1 .1 .0, (f .1 .1 .1 .0, (f .1 .1 .1 .1 .0, (f .1 .1 .1 .1 .1 .0, tt))))));
       layout = λ l. eqb-true (getD b 19 0) 2 (rw (eq-eqb _ _ l) at (y .1 .0));
       flag = λ l. rw (eq-eqb _ _ l) at (f .1 .1 .1 .1 .1 .1 .0);
@@ -121,7 +121,7 @@ taken b e =
 
 -- the eighteen are written back
 pub eighteen-back : (b : List ℕ) → areBytes b ≡ true → Taken b → chipBytes (chipOf (eighteenOf b)) ≡ eighteenOf b
-eighteen-back b a t = bytes-back (eighteenOf b) (bytes-take 18 b a) (t .size) (t .fields)
+eighteen-back b a t = bytes-back (eighteenOf b) (bytes-take 18 b a) (length-take-le 18 b (t .long)) (t .fields)
 
 -- and of 20 bytes the last two
 last-two : (b : List ℕ) → length b ≡ 20 → drop 18 b ≡ getD b 18 0 ∷ getD b 19 0 ∷ []

@@ -20,7 +20,7 @@ ghost use Rattle.cart.specs.Calls.{isBlank, inUse};
 ghost use Rattle.cart.specs.Replies.{state, replied, storeReplied, flagReplied};
 ghost use Rattle.state_calls.specs.StateAnswer.{stateAnswer, stateAnswered};
 
-// The number of a refusal or 0, and the chip record's bytes, all 0 if refused.
+// The number of a refusal or 0, and the state's bytes, all 0 if refused.
 pub struct StateAnswer {
     pub refusal: u8,
     pub bytes: StateBytes,
@@ -80,8 +80,7 @@ pub fn chip_state(cart: Cartridge) -> StateAnswer
     if !cart::record_allowed(cart) {
         return state_answer(2, [0; STATE_SIZE]);
     }
-    let chip = cart.chip;
-    state_answer(0, cart::chip_bytes(chip))
+    state_answer(0, cart::state_of(cart))
 }
 
 pub fn restore_chip_state(cart: Cartridge, bytes: &[u8]) -> Reply
@@ -94,7 +93,8 @@ pub fn restore_chip_state(cart: Cartridge, bytes: &[u8]) -> Reply
     if refusal != 0 {
         return cart::refuse(refusal, cart);
     }
-    cart::done(0, cart::cart_with(cart, cart.dirty, cart::chip_of(bytes)))
+    let dirty = cart::flag_from(bytes, cart.dirty);
+    cart::done(0, cart::cart_with(cart, dirty, cart::chip_in(bytes)))
 }
 
 pub fn take_save_dirty(cart: Cartridge) -> Reply
