@@ -18,7 +18,7 @@ use Rattle.cart.specs.States.{stateBytes}
 use Rattle.cart.specs.Record.{State, Outcome, outcome, outcomeOf, counted, recordAllowed, fresh, fromBytes}
 use Rattle.cart.specs.Calls.{Call, saveWrite, loadSave, saveData, chipState, saveRead, eepromBeginDma, eepromWrite, eepromRead, takeSaveDirty, readSave, writeSave, load, fileOf, exported, questions, accepted, step}
 use Rattle.cart.specs.Resume.{withFlag, flagOf}
-use Rattle.cart.specs.Cut.{fileLeft, bytesLeft, Carried, eighteen, twenty, cut, cuts, Turn, shown, run, uncut, carriesFlag, allCarryFlag, flagLeftOut, answerSeen, seen, CutRuns}
+use Rattle.cart.specs.Cut.{fileLeft, bytesLeft, Carried, eighteen, twenty, cut, cuts, Turn, Shown, shown, Compared, run, uncut, carriesFlag, allCarryFlag, flagLeftOut, answerSeen, seen, CutRuns}
 use Rattle.cart.proofs.Sound.{Sound, record-allowed, memory-fits, opened}
 use Rattle.cart.proofs.Recoverable.{Recoverable, NoByteWrite, clash, recoverable-step, recoverable-fresh}
 use Rattle.cart.proofs.Resume.{file-left, bytes-left, cut-is}
@@ -192,6 +192,14 @@ runs-same image part memory tallies flags (x ∷ list) s t p h n e r q =
     (recoverable-step image part c d t w q)
     in
     λ j. record { calls = a j ∷ i j .calls; file = i j .file; bytes = i j .bytes; tallies = i j .tallies }
+
+-- where all is compared
+answers-seen : (l : List Shown) → map (answerSeen true) l ≡ l
+answers-seen [] = refl
+answers-seen (x ∷ l) = ap (λ (k : List Shown). x ∷ k) (answers-seen l)
+
+pub all-seen : (r : Compared) → seen true r ≡ r
+all-seen r = ap (λ (l : List Shown). record { calls = l; file = r .file; bytes = r .bytes; tallies = r .tallies }) (answers-seen (r .calls))
 
 -- Demand 3
 pub cut-runs : CutRuns

@@ -14,6 +14,7 @@ use Rattle.kind.specs.Kind.{memorySize}
 use Rattle.cart.specs.declared.Cartridge.{Cartridge}
 use Rattle.cart.specs.declared.Reply.{Reply}
 use Rattle.cart.specs.ChipState.{chipBytes}
+use Rattle.cart.specs.States.{stateBytes}
 use Rattle.cart.specs.Record.{State, Outcome, recordAllowed}
 use Rattle.cart.specs.Calls.{saveData, chipState, fileOf, holds, exported, step, restore}
 use Rattle.cart.specs.Cut.{fileLeft, bytesLeft, reloaded}
@@ -76,7 +77,7 @@ module _ (scratch d' : List ℕ) (cart : Cartridge) (m : List ℕ) (r : Reply) (
       ∙ ap (λ (f : Option (List ℕ)). reloaded f t) (sym (file-left s a y))
 
 pub bytes-are : (s : State) → recordAllowed (s .cart) ≡ true → orZeros (step chipState [] s .given) ≡ bytesLeft s
-unfolding chipBytes
+unfolding stateBytes chipBytes
 bytes-are s a = ap (λ (o : Outcome). orZeros (o .given)) (state-accepted s a) ∙ sym (bytes-left s a)
 
 -- a restore leaves the tallies that it is not passed

@@ -1,4 +1,4 @@
-// A cut, made by the real calls: export and `chip_state`, then opening, load and restore.
+// A cut that carries layout 2, made by the real calls: export and `chip_state`, then opening, load and restore.
 
 use cart::Cartridge;
 ghost use mathlib.Core.Path.{_≡_};
@@ -7,7 +7,7 @@ ghost use Prim.Native.Nat.{_≤_};
 ghost use lib.ListN.{length};
 ghost use Rattle.kind.specs.Kind.{memorySize};
 ghost use Rattle.cart.specs.Record.{recordAllowed};
-ghost use Rattle.cart.specs.Cut.{cut as cut·spec};
+ghost use Rattle.cart.specs.Cut.{twenty, cut as cut·spec};
 ghost use Rattle.cart.specs.Replies.{tallied};
 ghost use Rattle.cut_call.specs.Loads.{loadedFrom, resumed};
 
@@ -63,7 +63,7 @@ pub fn cut(
     ensures { λ r. ⌜ (let m = now (memory .entry) in
         let ts = now (tallies .entry) in
         tallied r (now (memory .exit)) (now (tallies .exit))
-        ≡ cut·spec (now (image .entry)) part m ts (tallied cart m ts)) ⌝ }
+        ≡ cut·spec (now (image .entry)) part m ts twenty (tallied cart m ts)) ⌝ }
 {
     let n = memory.len();
     let exported = file_calls::save_data(cart, memory, &mut scratch[..n]);

@@ -15,17 +15,18 @@ use Rattle.kind.specs.Kind.{memorySize, usesEeprom, detectSaveType}
 use Rattle.cart.specs.Record.{State, Outcome, fromBytes}
 use Rattle.cart.specs.Calls.{Call, saveRead, saveWrite, eepromBeginDma, eepromWrite, eepromRead, loadSave, saveData, chipState, takeSaveDirty, exported, fileOf, step}
 use Rattle.cart.specs.ChipState.{chipBytes}
-use Rattle.cart.specs.Cut.{fileLeft, bytesLeft, cuts, Turn, Compared, run, uncut, shown}
+use Rattle.cart.specs.States.{stateBytes}
+use Rattle.cart.specs.Cut.{fileLeft, bytesLeft, Carried, cuts, Turn, Compared, run, uncut, shown, carriesFlag, allCarryFlag, seen}
 use Rattle.cart.proofs.Sound.{record-allowed, memory-fits}
 use Rattle.cart.proofs.Recoverable.{Recoverable, recoverable-step}
 use Rattle.cart.proofs.Resume.{export-accepted, state-accepted, file-left, bytes-left}
-use Rattle.cart.proofs.CutRuns.{cut-runs}
+use Rattle.cart.proofs.CutRuns.{all-seen, cut-runs}
 use Rattle.call_list.specs.declared.Item.{Item}
 use Rattle.call_list.specs.declared.Item.the-variants.{SaveRead, SaveWrite, EepromRead, EepromWrite, BeginDma, TakeFlag, ChipState, LoadSave, SaveData, Cut, Bad}
 use Rattle.call_list.specs.Items.{Place, items, isWrite, byteWrites}
 use Rattle.replay.specs.Replay.{Answered, fileAnswer, ownTallies, replayQuestions, play, playAll, notCut, ending, recordAnswer, uncutRun}
 use Rattle.replay.specs.Replay as replay
-use Rattle.replay.specs.Claims.{cutsInFront, turn, turnOr, turns, shownBytes, callsBytes, fileBytes, encoded, ReplayRuns}
+use Rattle.replay.specs.Claims.{cutOr, cutsInFront, turn, turnOr, turns, shownBytes, callsBytes, fileBytes, encoded, ReplayRuns}
 use Rattle.replay.proofs.Same.{isByteWrite, no-write, fresh-stands}
 use Rattle.replay.proofs.Runs.{both-false, writes-more}
 use Rattle.replay.proofs.Whole.{opens-own, opens-here, next-fresh, no-byte-write, memory-length}
@@ -35,7 +36,7 @@ file-bytes n none s = refl
 file-bytes n (some f) s = refl
 
 ending-is : (image : List ℕ) (part : ℕ) (s : State) → Recoverable image part s → ending s ≡ fileBytes (length (s .memory)) (fileLeft s) ++ (0 ∷ bytesLeft s)
-unfolding ending chipBytes
+unfolding ending stateBytes chipBytes
 ending-is image part s r =
     let n : ℕ = length (s .memory) in
     let a = record-allowed s (r .sound) in
@@ -54,7 +55,7 @@ abbrev shownFrom : List ℕ → ℕ → List ℕ → List ℕ → List Turn → 
 shownFrom image part memory tallies list s = encoded (memorySize (detectSaveType image)) list (run image part memory tallies (uncut list) s)
 
 -- a call in front of a list
-call-more : (image : List ℕ) (part : ℕ) (memory tallies : List ℕ) (c : Call) (d : List ℕ) (k : ℕ) (list : List Turn) (s : State) (rest : Answered)
+call-more : (image : List ℕ) (part : ℕ) (memory tallies : List ℕ) (c : Call) (d : List ℕ) (k : List Carried) (list : List Turn) (s : State) (rest : Answered)
     → let o = step c d s in
     rest .bytes ++ ending (rest .next) ≡ shownFrom image part memory tallies list (o .next)
     → (shownBytes c (shown o) ++ rest .bytes) ++ ending (rest .next) ≡ shownFrom image part memory tallies (turn c d k ∷ list) s
@@ -70,7 +71,7 @@ call-more image part memory tallies c d k list s rest e =
 abbrev Shows : List ℕ → ℕ → List ℕ → List ℕ → List Place → Type 0
 Shows image part memory tallies list = (t : State) → Recoverable image part t → let r = playAll notCut list t in r .bytes ++ ending (r .next) ≡ shownFrom image part memory tallies (turns list) t
 
-module _ (image : List ℕ) (part : ℕ) (memory tallies : List ℕ) (list : List Place) (k : ℕ) (s : State) (r : Recoverable image part s) (h : Shows image part memory tallies list) where
+module _ (image : List ℕ) (part : ℕ) (memory tallies : List ℕ) (list : List Place) (k : List Carried) (s : State) (r : Recoverable image part s) (h : Shows image part memory tallies list) where
   call-shown : (c : Call) (d : List ℕ) → isByteWrite c && usesEeprom (detectSaveType image) ≡ false
       → let o = step c d s in
       let rest = playAll notCut list (o .next) in
@@ -120,7 +121,7 @@ unfolding anyWrite
 mem-any (List·Memᴰ·head {x = c} {xs = calls} e) = let w : isByteWrite c ≡ true = ap isByteWrite (sym e) in rw w
 mem-any (List·Memᴰ·tail {x = c} {xs = calls} d) = cases (isByteWrite c) (λ t. rw t) (λ t. rw t (mem-any d))
 
-turns-write : (i : Item) (l : List ℕ) (k : ℕ) (list : List Turn) → anyWrite (map (λ t. t .call) (turnOr i l k list)) ≡ (isWrite i || anyWrite (map (λ t. t .call) list))
+turns-write : (i : Item) (l : List ℕ) (k : List Carried) (list : List Turn) → anyWrite (map (λ t. t .call) (turnOr i l k list)) ≡ (isWrite i || anyWrite (map (λ t. t .call) list))
 unfolding anyWrite
 turns-write (SaveRead a) l k list = refl
 turns-write (SaveWrite a v) l k list = refl
@@ -142,6 +143,46 @@ writes-alike (p ∷ list) = turns-write (p .item) (p .bytes) (cutsInFront list) 
 no-writes : (image : List ℕ) (list : List Place) → byteWrites list && usesEeprom (detectSaveType image) ≡ false
     → (a v : ℕ) → List·Memᴰ (saveWrite a v) (map (λ t. t .call) (turns list)) → usesEeprom (detectSaveType image) ≡ false
 no-writes image list w a v m = let b : byteWrites list ≡ true = sym (writes-alike list) ∙ mem-any m in rw b at w
+
+-- each cut carries layout 2, and so all is compared
+cut-carries : (i : Item) (k : List Carried) → carriesFlag k ≡ true → carriesFlag (cutOr i k) ≡ true
+cut-carries (SaveRead a) k e = refl
+cut-carries (SaveWrite a v) k e = refl
+cut-carries EepromRead k e = refl
+cut-carries (EepromWrite v) k e = refl
+cut-carries (BeginDma words) k e = refl
+cut-carries TakeFlag k e = refl
+cut-carries ChipState k e = refl
+cut-carries (LoadSave n) k e = refl
+cut-carries (SaveData n) k e = refl
+cut-carries Cut k e = e
+cut-carries Bad k e = refl
+
+front-carries : (list : List Place) → carriesFlag (cutsInFront list) ≡ true
+unfolding cutsInFront
+front-carries [] = refl
+front-carries (p ∷ list) = cut-carries (p .item) (cutsInFront list) (front-carries list)
+
+turn-carries : (i : Item) (l : List ℕ) (k : List Carried) (list : List Turn) → carriesFlag k ≡ true → allCarryFlag list ≡ true → allCarryFlag (turnOr i l k list) ≡ true
+turn-carries (SaveRead a) l k list e f = rw (e, f)
+turn-carries (SaveWrite a v) l k list e f = rw (e, f)
+turn-carries EepromRead l k list e f = rw (e, f)
+turn-carries (EepromWrite v) l k list e f = rw (e, f)
+turn-carries (BeginDma words) l k list e f = rw (e, f)
+turn-carries TakeFlag l k list e f = rw (e, f)
+turn-carries ChipState l k list e f = rw (e, f)
+turn-carries (LoadSave n) l k list e f = rw (e, f)
+turn-carries (SaveData n) l k list e f = rw (e, f)
+turn-carries Cut l k list e f = f
+turn-carries Bad l k list e f = f
+
+turns-carry : (list : List Place) → allCarryFlag (turns list) ≡ true
+unfolding turns
+turns-carry [] = refl
+turns-carry (p ∷ list) = turn-carries (p .item) (p .bytes) (cutsInFront list) (turns list) (front-carries list) (turns-carry list)
+
+all-shown : (list : List Turn) (r q : Compared) → allCarryFlag list ≡ true → seen (allCarryFlag list) r ≡ seen (allCarryFlag list) q → r ≡ q
+all-shown list r q e h = sym (all-seen r) ∙ subst (λ (b : Bool). seen b r ≡ seen b q) e h ∙ all-seen q
 
 module _ (image : List ℕ) (part : ℕ) (bytes memory scratch out : List ℕ) (h : replay.replay image part bytes memory scratch out .0 ≡ 0) where
   abbrev number : ℕ
@@ -172,9 +213,10 @@ module _ (image : List ℕ) (part : ℕ) (bytes memory scratch out : List ℕ) (
 
   with-cuts : replay.replay image part bytes memory scratch out .3 ≡ into (encoded (length memory) list (run image part memory (ownTallies image) list s)) out
   with-cuts =
+      let c = cut-runs image part memory (ownTallies image) list (opens-here image part bytes memory scratch out number refl accepts) (no-writes image (items 0 bytes) w) in
       without-cuts
       ∙ ap (λ (r : Compared). into (encoded (length memory) list r) out)
-      (sym (cut-runs image part memory (ownTallies image) list (opens-here image part bytes memory scratch out number refl accepts) (no-writes image (items 0 bytes) w)))
+      (sym (all-shown list _ _ (turns-carry (items 0 bytes)) c))
 
 pub replay-runs : ReplayRuns
 replay-runs = record { withoutCuts = without-cuts; withCuts = with-cuts }

@@ -19,7 +19,7 @@ unfolding into
 into-all f d e = ap (λ (n : ℕ). f ++ drop n d) (sym e) ∙ rw (drop-length d) (append-nil f)
 
 -- a first byte stored, and the others copied after it
-pub byte-and-copy : (out bytes o : List ℕ) (r : ℕ) → length out ≡ 19 → length bytes ≡ 18
+pub byte-and-copy : (out bytes o : List ℕ) (r : ℕ) → length out ≡ 21 → length bytes ≡ 20
     → let out' = set out 0 r in o ≡ into bytes (take (length out' - 1) (drop 1 out'))
     → take 1 out' ++ (o ++ drop (length out' - 1) (drop 1 out')) ≡ r ∷ bytes
 byte-and-copy [] bytes o r h k e = absurd (omega arith)

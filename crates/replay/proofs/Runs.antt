@@ -15,12 +15,11 @@ use Rattle.cart.specs.declared.Cartridge.{Cartridge}
 use Rattle.cart.specs.Record.{State, openQuestions, fresh}
 use Rattle.cart.specs.Replies.{state, tallied}
 use Rattle.cart.proofs.Recoverable.{Recoverable}
-use Rattle.cart.proofs.Resume.{quiet}
 use Rattle.call_list.specs.declared.Item.{Item}
 use Rattle.call_list.specs.Items.{Place, itemIn, itemLength, itemRoom, endingRoom, items, isWrite, byteWrites, room}
 use Rattle.call_list.proofs.Places.{next-item, item-fits}
 use Rattle.replay.specs.Replay.{Answered, answered, play, playAll, ending, notCut, cutAt, shownBy, uncutRun, left}
-use Rattle.replay.proofs.Same.{part-stands, fresh-stands, plays-same, ends-same, ending-apart}
+use Rattle.replay.proofs.Same.{part-stands, fresh-stands, plays-same, plays-on, ending-apart}
 
 -- the items from byte i on
 abbrev pub itemsFrom : ℕ → List ℕ → List Place
@@ -30,10 +29,9 @@ itemsFrom i list = items 0 (drop i list)
 abbrev behind : List ℕ → Answered → Answered
 behind front a = answered (front ++ a .bytes) (a .next)
 
--- front: the answers of the items before byte i; uncut: the state of the machine that is not cut
+-- front: the answers of the items before byte i
 pub record Ran (image : List ℕ) (part : ℕ) (list m₀ ts₀ scratch₀ out₀ m ts scratch out : List ℕ) (cart : Cartridge) (at i : ℕ) : Type 0 where
   pub front : List ℕ
-  pub uncut : State
   pub placeOk : i ≤ length list
   pub atIs : at ≡ length front
   pub roomOk : at + room (itemsFrom i list) + endingRoom (length m) ≤ length out₀
@@ -44,8 +42,7 @@ pub record Ran (image : List ℕ) (part : ℕ) (list m₀ ts₀ scratch₀ out�
   pub writesOk : byteWrites (itemsFrom i list) && usesEeprom (detectSaveType image) ≡ false
   pub partOk : numberFits part (detectSaveType image) ≡ true
   pub stands : Recoverable image part (tallied cart m ts)
-  pub same : quiet (tallied cart m ts) ≡ quiet uncut
-  pub wholeIs : playAll notCut (items 0 list) (fresh image (partOf part)) ≡ behind front (playAll notCut (itemsFrom i list) uncut)
+  pub wholeIs : playAll notCut (items 0 list) (fresh image (partOf part)) ≡ behind front (playAll notCut (itemsFrom i list) (tallied cart m ts))
 
 pub ran-start : (image : List ℕ) (part : ℕ) (list m ts scratch out : List ℕ) (cart : Cartridge) → tallied cart m ts ≡ fresh image (partOf part) → asked (openQuestions image part m ts) ≡ 0
     → byteWrites (items 0 list) && usesEeprom (detectSaveType image) ≡ false → room (items 0 list) + endingRoom (length m) ≤ length out
@@ -54,7 +51,6 @@ unfolding into
 ran-start image part list m ts scratch out cart e q w h =
     record {
       front = [];
-      uncut = fresh image (partOf part);
       placeOk = omega arith;
       atIs = refl;
       roomOk = omega (arith, h);
@@ -65,8 +61,7 @@ ran-start image part list m ts scratch out cart e q w h =
       writesOk = w;
       partOk = part-stands image part m ts q;
       stands = rw e (fresh-stands image part m ts q);
-      same = ap quiet e;
-      wholeIs = refl;
+      wholeIs = ap (playAll notCut (items 0 list)) (sym e);
     }
 
 -- an answer, put after those before it
@@ -120,21 +115,20 @@ module _ {image : List ℕ} {part : ℕ} {list m₀ ts₀ scratch₀ out₀ m ts
       → Ran image part list m₀ ts₀ scratch₀ out₀ m' ts' scratch' out' cart' (at + n) (i + k)
   goes-on h item y' n k z a {m'} {ts'} {scratch'} {o} {out'} {cart'} e l lm lt ls d =
       let s : State = tallied cart m ts in
-      let t : State = r .uncut in
       let more : List Place = itemsFrom (i + k) list in
       let here : Place = record { item = item; bytes = drop i list } in
       let x : itemsFrom i list ≡ here ∷ more = here-and-more h item y' k a in
       let w = both-false (isWrite item) (byteWrites more) (usesEeprom (detectSaveType image)) (writes-more here more (usesEeprom (detectSaveType image)) (ap (λ (ps : List Place). byteWrites ps && usesEeprom (detectSaveType image)) (sym x) ∙ r .writesOk)) in
-      let y = plays-same image part s t (r .same) (r .stands) (r .partOk) item (drop i list) (w .0) in
-      let q : Answered = play notCut item (drop i list) t in
-      let b : o ≡ q .bytes = (λ j. e j .1) ∙ y .bytesSame in
+      let q : Answered = play notCut item (drop i list) s in
+      let y = e ∙ ap left (plays-same image part s (r .stands) (r .partOk) item (drop i list)) in
+      let b : o ≡ q .bytes = λ j. y j .1 in
+      let x' : tallied cart' m' ts' ≡ q .next = λ j. y j .0 in
       let g : room (itemsFrom i list) ≡ itemRoom item + room more = ap room x ∙ room-more here more in
       let f : length (drop i list) ≡ length list - i = length-drop i list in
       let v = item-fits (drop i list) (omega (arith, f, h)) in
       let u : itemLength item ≡ itemLength (itemIn (drop i list)) = ap itemLength y' in
       record {
         front = r .front ++ q .bytes;
-        uncut = q .next;
         placeOk = omega (arith, u, v .0, f, h, a);
         atIs = omega (arith, r .atIs, length-append (r .front) (q .bytes), l, ap length b);
         roomOk = omega (arith, r .roomOk, g, z, lm);
@@ -146,9 +140,10 @@ module _ {image : List ℕ} {part : ℕ} {list m₀ ts₀ scratch₀ out₀ m ts
         scratchOk = ls ∙ r .scratchOk;
         writesOk = w .1;
         partOk = r .partOk;
-        stands = subst (Recoverable image part) (λ j. sym e j .0) (y .stillStands);
-        same = (λ j. quiet (e j .0)) ∙ y .stillSame;
-        wholeIs = r .wholeIs ∙ ap (λ (ps : List Place). behind (r .front) (playAll notCut ps t)) x ∙ played-more (r .front) here more t;
+        stands = subst (Recoverable image part) (sym x') (plays-on image part s (r .stands) item (drop i list) (w .0));
+        wholeIs =
+            r .wholeIs ∙ ap (λ (ps : List Place). behind (r .front) (playAll notCut ps s)) x ∙ played-more (r .front) here more s
+            ∙ ap (λ (z : State). behind (r .front ++ q .bytes) (playAll notCut more z)) (sym x');
       }
 
   -- what comes after the last item
@@ -158,9 +153,10 @@ module _ {image : List ℕ} {part : ℕ} {list m₀ ts₀ scratch₀ out₀ m ts
   ends h n {o} {out'} e l d =
       let y : i ≡ length list = omega (arith, h, r .placeOk) in
       let z : drop i list ≡ [] = ap (λ (k : ℕ). drop k list) y ∙ drop-length list in
-      let w : playAll notCut (items 0 list) (fresh image (partOf part)) ≡ answered (r .front) (r .uncut) =
-      r .wholeIs ∙ (λ j. behind (r .front) (playAll notCut (items 0 (z j)) (r .uncut))) ∙ (λ j. answered (append-nil (r .front) j) (r .uncut)) in
-      let t : o ≡ ending (r .uncut) = e ∙ sym (ending-apart ts (state cart m)) ∙ ends-same image part (tallied cart m ts) (r .uncut) (r .same) (r .stands) in
-      let g : out' ≡ into (r .front ++ ending (r .uncut)) out₀ =
+      let s : State = tallied cart m ts in
+      let w : playAll notCut (items 0 list) (fresh image (partOf part)) ≡ answered (r .front) s =
+      r .wholeIs ∙ (λ j. behind (r .front) (playAll notCut (items 0 (z j)) s)) ∙ (λ j. answered (append-nil (r .front) j) s) in
+      let t : o ≡ ending s = e ∙ sym (ending-apart ts (state cart m)) in
+      let g : out' ≡ into (r .front ++ ending s) out₀ =
       d ∙ put-piece (r .front) o out₀ out at n (r .atIs) (omega (arith, r .roomOk)) (r .outIs) l ∙ ap (λ (bs : List ℕ). into (r .front ++ bs) out₀) t in
-      (λ j. (r .same j .memory, g j)) ∙ (λ j. shownBy (answered (sym w j .bytes ++ ending (sym w j .next)) (sym w j .next)) out₀)
+      (λ j. (m, g j)) ∙ (λ j. shownBy (answered (sym w j .bytes ++ ending (sym w j .next)) (sym w j .next)) out₀)

@@ -14,17 +14,16 @@ use Rattle.kind.specs.Kind.{memorySize, tallyCount, usesEeprom, detectSaveType}
 use Rattle.part.specs.Part.{partOf, numberFits}
 use Rattle.cart.specs.Record.{State, Outcome, openQuestions, fromBytes, fresh}
 use Rattle.cart.specs.Calls.{Call, saveRead, saveWrite, eepromBeginDma, eepromWrite, eepromRead, loadSave, saveData, chipState, takeSaveDirty, step}
-use Rattle.cart.specs.Cut.{cut}
+use Rattle.cart.specs.Cut.{twenty}
 use Rattle.cart.specs.Stretches.{withTallies}
 use Rattle.cart.proofs.Tallies.{right-fit}
 use Rattle.cart.proofs.Stretches.{stretches}
 use Rattle.cart.proofs.Recoverable.{Recoverable, NoByteWrite, recoverable-step, recoverable-fresh}
-use Rattle.cart.proofs.Resume.{quiet, cut-quiet}
-use Rattle.cart.proofs.CutRuns.{unflagged, step-same, recoverable-flag}
+use Rattle.cart.proofs.Resume.{cut-is}
 use Rattle.call_list.specs.declared.Item.{Item}
 use Rattle.call_list.specs.declared.Item.the-variants.{SaveRead, SaveWrite, EepromRead, EepromWrite, BeginDma, TakeFlag, ChipState, LoadSave, SaveData, Cut, Bad}
 use Rattle.call_list.specs.Items.{isWrite}
-use Rattle.replay.specs.Replay.{Answered, statusAnswer, valueAnswer, recordAnswer, fileAnswer, play, notCut, cutAt, ending}
+use Rattle.replay.specs.Replay.{answered, recordAnswer, fileAnswer, play, notCut, cutAt, ending}
 
 -- the image of a state that is recoverable opens again, with a part's number that fits
 open-yes : (image : List ℕ) (part : ℕ) (s : State) → Recoverable image part s → numberFits part (detectSaveType image) ≡ true → asked (openQuestions image part (s .memory) (s .tallies)) ≡ 0
@@ -60,48 +59,38 @@ isByteWrite takeSaveDirty = false
 pub no-write : (kind : SaveType) (c : Call) → isByteWrite c && usesEeprom kind ≡ false → NoByteWrite kind c
 no-write kind c h = λ a v p. let w : isByteWrite c ≡ true = ap isByteWrite (sym p) in rw w at h
 
--- s is cut, t is not: what they answer and how they go on
-pub record Alike (image : List ℕ) (part : ℕ) (p q : Answered) : Type 0 where
-  pub bytesSame : p .bytes ≡ q .bytes
-  pub stillSame : quiet (p .next) ≡ quiet (q .next)
-  pub stillStands : Recoverable image part (p .next)
-
-module _ (image : List ℕ) (part : ℕ) (s t : State) (e : quiet s ≡ quiet t) (r : Recoverable image part s) where
-  -- a call, of whose outcome f shows nothing of the flag
-  called : (f : Outcome → List ℕ) (c : Call) (d : List ℕ) → isByteWrite c && usesEeprom (detectSaveType image) ≡ false
-      → ((o : Outcome) → f (unflagged o) ≡ f o)
-      → (f (step c d s) ≡ f (step c d t)) × ((quiet (step c d s .next) ≡ quiet (step c d t .next)) × Recoverable image part (step c d s .next))
-  called f c d w u =
-      let o : unflagged (step c d s) ≡ unflagged (step c d t) = step-same c d s t e in
-      (sym (u (step c d s)) ∙ ap f o ∙ u (step c d t), (ap (λ (x : Outcome). x .next) o, recoverable-step image part c d s (no-write (detectSaveType image) c w) r))
-
-  abbrev alike : {p q : Answered} → (p .bytes ≡ q .bytes) × ((quiet (p .next) ≡ quiet (q .next)) × Recoverable image part (p .next)) → Alike image part p q
-  alike x = record { bytesSame = x .0; stillSame = x .1 .0; stillStands = x .1 .1 }
-
-  pub plays-same : numberFits part (detectSaveType image) ≡ true → (i : Item) (l : List ℕ) → isWrite i && usesEeprom (detectSaveType image) ≡ false → Alike image part (play (cutAt image part) i l s) (play notCut i l t)
+module _ (image : List ℕ) (part : ℕ) (s : State) (r : Recoverable image part s) where
+  -- a cut gives the state back, and so an item that may be a cut does what it does uncut
+  pub plays-same : numberFits part (detectSaveType image) ≡ true → (i : Item) (l : List ℕ) → play (cutAt image part) i l s ≡ play notCut i l s
   unfolding play
-  plays-same f (SaveRead a) l w = alike (called (λ o. valueAnswer o .bytes) (saveRead a) [] refl (λ o. refl))
-  plays-same f (SaveWrite a v) l w = alike (called (λ o. statusAnswer o .bytes) (saveWrite a v) [] w (λ o. refl))
-  plays-same f EepromRead l w = alike (called (λ o. valueAnswer o .bytes) eepromRead [] refl (λ o. refl))
-  plays-same f (EepromWrite v) l w = alike (called (λ o. statusAnswer o .bytes) (eepromWrite v) [] refl (λ o. refl))
-  plays-same f (BeginDma words) l w = alike (called (λ o. statusAnswer o .bytes) (eepromBeginDma words) [] refl (λ o. refl))
-  plays-same f TakeFlag l w = alike (called (λ o. statusAnswer o .bytes) takeSaveDirty [] refl (λ o. refl))
-  plays-same f ChipState l w = alike (called (λ o. recordAnswer o .bytes) chipState [] refl (λ o. refl))
-  plays-same f (LoadSave n) l w = alike (called (λ o. statusAnswer o .bytes) (loadSave (take n (drop 5 l))) [] refl (λ o. refl))
-  plays-same f (SaveData n) l w = alike (called (λ o. fileAnswer o .bytes) saveData (replicate n 0) refl (λ o. refl))
-  plays-same f Cut l w =
-      let q : cut image part (s .memory) (s .tallies) s ≡ quiet s = cut-quiet image part (s .memory) (s .tallies) s (opens image part s r f) r in
-      record { bytesSame = refl; stillSame = ap quiet q ∙ e; stillStands = rw q (recoverable-flag image part false s r) }
-  plays-same f Bad l w = record { bytesSame = refl; stillSame = e; stillStands = r }
+  plays-same f (SaveRead a) l = refl
+  plays-same f (SaveWrite a v) l = refl
+  plays-same f EepromRead l = refl
+  plays-same f (EepromWrite v) l = refl
+  plays-same f (BeginDma words) l = refl
+  plays-same f TakeFlag l = refl
+  plays-same f ChipState l = refl
+  plays-same f (LoadSave n) l = refl
+  plays-same f (SaveData n) l = refl
+  plays-same f Cut l = ap (answered []) (cut-is image part (s .memory) (s .tallies) twenty s (opens image part s r f) r)
+  plays-same f Bad l = refl
 
-  pub ends-same : ending s ≡ ending t
-  unfolding ending
-  ends-same =
-      let n : length (s .memory) ≡ length (t .memory) = ap (λ (x : State). length (x .memory)) e in
-      let f : (fileAnswer (step saveData (replicate (length (s .memory)) 0) s) .bytes) ≡ (fileAnswer (step saveData (replicate (length (s .memory)) 0) t) .bytes) =
-      called (λ o. fileAnswer o .bytes) saveData (replicate (length (s .memory)) 0) refl (λ o. refl) .0 in
-      let g = called (λ o. recordAnswer o .bytes) chipState [] refl (λ o. refl) .0 in
-      (λ i. f i ++ g i) ∙ ap (λ (k : ℕ). fileAnswer (step saveData (replicate k 0) t) .bytes ++ recordAnswer (step chipState [] t) .bytes) n
+  stands : (c : Call) (d : List ℕ) → isByteWrite c && usesEeprom (detectSaveType image) ≡ false → Recoverable image part (step c d s .next)
+  stands c d w = recoverable-step image part c d s (no-write (detectSaveType image) c w) r
+
+  pub plays-on : (i : Item) (l : List ℕ) → isWrite i && usesEeprom (detectSaveType image) ≡ false → Recoverable image part (play notCut i l s .next)
+  unfolding play
+  plays-on (SaveRead a) l w = stands (saveRead a) [] refl
+  plays-on (SaveWrite a v) l w = stands (saveWrite a v) [] w
+  plays-on EepromRead l w = stands eepromRead [] refl
+  plays-on (EepromWrite v) l w = stands (eepromWrite v) [] refl
+  plays-on (BeginDma words) l w = stands (eepromBeginDma words) [] refl
+  plays-on TakeFlag l w = stands takeSaveDirty [] refl
+  plays-on ChipState l w = stands chipState [] refl
+  plays-on (LoadSave n) l w = stands (loadSave (take n (drop 5 l))) [] refl
+  plays-on (SaveData n) l w = stands saveData (replicate n 0) refl
+  plays-on Cut l w = r
+  plays-on Bad l w = r
 
 -- the ending shows nothing of the tallies
 pub ending-apart : (ts : List ℕ) (s : State) → ending (withTallies ts s) ≡ ending s

@@ -1,17 +1,19 @@
 -- What a call returned, as the bytes of its answer. Assumes nothing.
 use mathlib.Core.Path.{_≡_, refl, ap, _∙_}
+use mathlib.Core.Bool.{Bool, true, false}
 use mathlib.Core.List.{List, [], _∷_}
 use Prim.Native.Nat.{ℕ, _+_, _-_, _%_, _≤_}
 use native.Mathlib.Omega.{arith}
 use lib.Dec.{eqb}
 use lib.ListN.{length, take, drop}
+use Rattle.lists.specs.Lists.{bit}
 use Rattle.lists.specs.Questions.{asked}
 use Rattle.lists.proofs.Bools.{either}
 use Rattle.cart.specs.declared.Cartridge.{Cartridge}
 use Rattle.cart.specs.declared.Reply.{Reply}
 use Rattle.cart.specs.Record.{State, Outcome}
 use Rattle.cart.specs.Calls.{saveData, fileOf, questions, accepted, step}
-use Rattle.cart.specs.Replies.{tallied, replied}
+use Rattle.cart.specs.Replies.{tallied, replied, flagReplied}
 use Rattle.cart.specs.Stretches.{withTallies, besideTallies}
 use Rattle.cart.proofs.Recoverable.{exported-next}
 use Rattle.state_calls.specs.declared.StateAnswer.{StateAnswer}
@@ -19,7 +21,7 @@ use Rattle.state_calls.specs.StateAnswer.{stateAnswered}
 use Rattle.call_list.specs.declared.Item.{Item}
 use Rattle.call_list.specs.declared.Item.the-variants.{LoadSave, SaveData}
 use Rattle.call_list.specs.Items.{itemLength, itemRoom}
-use Rattle.replay.specs.Replay.{valueAnswer, recordAnswer, left, statusShown, valueShown}
+use Rattle.replay.specs.Replay.{valueAnswer, flagAnswer, recordAnswer, left, statusShown, valueShown}
 
 pub shows-status : {reply q : Reply} {m n ts us out : List ℕ} {r : Cartridge} → _≡_ {A = Reply × List ℕ × List ℕ} (reply, m, ts) (q, n, us)
     → _≡_ {A = Cartridge × List ℕ} (r, out) (statusShown reply)
@@ -37,6 +39,18 @@ pub shows-value : (o : Outcome) (ts : List ℕ) {reply : Reply} {m out : List �
     → _≡_ {A = State × List ℕ} (tallied r m ts, out) (left (valueAnswer (besideTallies ts o)))
 shows-value o ts {m = m} e h =
     (λ i. (tallied (h i .0) m ts, h i .1)) ∙ (λ i. (tallied (e i .0 .cart) (e i .1) ts, e i .0 .refusal ∷ e i .0 .value % 256 ∷ []))
+
+-- the flag is a byte as it is
+flag-byte : (b : Bool) → bit b % 256 ≡ bit b
+flag-byte true = refl
+flag-byte false = refl
+
+pub shows-flag : (o : Outcome) (ts : List ℕ) {reply : Reply} {m out : List ℕ} {r : Cartridge} → _≡_ {A = Reply × List ℕ} (reply, m) (flagReplied o)
+    → _≡_ {A = Cartridge × List ℕ} (r, out) (valueShown reply)
+    → _≡_ {A = State × List ℕ} (tallied r m ts, out) (left (flagAnswer (besideTallies ts o)))
+shows-flag o ts {m = m} e h =
+    (λ i. (tallied (h i .0) m ts, h i .1)) ∙ (λ i. (tallied (e i .0 .cart) (e i .1) ts, e i .0 .refusal ∷ e i .0 .value % 256 ∷ []))
+    ∙ ap (λ (v : ℕ). (withTallies ts (o .next), o .refusal ∷ v ∷ [])) (flag-byte (o .flag))
 
 pub shows-state : (o : Outcome) (ts : List ℕ) {a : StateAnswer} {s : State} {out : List ℕ} → _≡_ {A = StateAnswer × State} (a, s) (stateAnswered o)
     → out ≡ a .refusal ∷ a .bytes

@@ -2,13 +2,13 @@
 use mathlib.Core.Path.{_≡_}
 use mathlib.Core.List.{List, [], _∷_, _++_, map}
 use mathlib.Core.Option.{Option, none, some}
-use Prim.Native.Nat.{ℕ, suc, _%_}
+use Prim.Native.Nat.{ℕ, _%_}
 use lib.ListN.{length, take, drop, replicate}
-use Rattle.lists.specs.Lists.{into}
+use Rattle.lists.specs.Lists.{into, bit}
 use Rattle.cart.specs.Record.{fromBytes}
 use Rattle.cart.specs.Calls.{Call, saveRead, saveWrite, eepromBeginDma, eepromWrite, eepromRead}
 use Rattle.cart.specs.Calls.{loadSave, saveData, chipState, takeSaveDirty}
-use Rattle.cart.specs.Cut.{Turn, Shown, Compared, run, uncut}
+use Rattle.cart.specs.Cut.{Carried, twenty, Turn, Shown, Compared, run, uncut}
 use Rattle.cart.specs.Replies.{first}
 use Rattle.state_calls.specs.StateAnswer.{orZeros}
 use Rattle.call_list.specs.declared.Item.{Item}
@@ -17,40 +17,40 @@ use Rattle.call_list.specs.declared.Item.the-variants.{TakeFlag, ChipState, Loa
 use Rattle.call_list.specs.Items.{Place, items}
 use Rattle.replay.specs.Replay.{fourBytes, ownTallies, replay}
 
--- how many cuts are at the front of a list
-abbrev pub cutOr : Item → ℕ → ℕ
-cutOr (SaveRead a) n = 0
-cutOr (SaveWrite a v) n = 0
-cutOr EepromRead n = 0
-cutOr (EepromWrite v) n = 0
-cutOr (BeginDma words) n = 0
-cutOr TakeFlag n = 0
-cutOr ChipState n = 0
-cutOr (LoadSave n) m = 0
-cutOr (SaveData n) m = 0
-cutOr Cut n = suc n
-cutOr Bad n = 0
+-- the cuts at the front of a list
+abbrev pub cutOr : Item → List Carried → List Carried
+cutOr (SaveRead a) ks = []
+cutOr (SaveWrite a v) ks = []
+cutOr EepromRead ks = []
+cutOr (EepromWrite v) ks = []
+cutOr (BeginDma words) ks = []
+cutOr TakeFlag ks = []
+cutOr ChipState ks = []
+cutOr (LoadSave n) ks = []
+cutOr (SaveData n) ks = []
+cutOr Cut ks = twenty ∷ ks
+cutOr Bad ks = []
 
-unfoldable pub cutsInFront : List Place → ℕ
-cutsInFront [] = 0
+unfoldable pub cutsInFront : List Place → List Carried
+cutsInFront [] = []
 cutsInFront (p ∷ list) = cutOr (p .item) (cutsInFront list)
 
 -- the calls of a list, with their destinations and the cuts after each
-abbrev pub turn : Call → List ℕ → ℕ → Turn
-turn c d n = record { call = c; destination = d; cutsBehind = n }
+abbrev pub turn : Call → List ℕ → List Carried → Turn
+turn c d ks = record { call = c; destination = d; cutsBehind = ks }
 
-abbrev pub turnOr : Item → List ℕ → ℕ → List Turn → List Turn
-turnOr (SaveRead a) l n list = turn (saveRead a) [] n ∷ list
-turnOr (SaveWrite a v) l n list = turn (saveWrite a v) [] n ∷ list
-turnOr EepromRead l n list = turn eepromRead [] n ∷ list
-turnOr (EepromWrite v) l n list = turn (eepromWrite v) [] n ∷ list
-turnOr (BeginDma words) l n list = turn (eepromBeginDma words) [] n ∷ list
-turnOr TakeFlag l n list = turn takeSaveDirty [] n ∷ list
-turnOr ChipState l n list = turn chipState [] n ∷ list
-turnOr (LoadSave k) l n list = turn (loadSave (take k (drop 5 l))) [] n ∷ list
-turnOr (SaveData k) l n list = turn saveData (replicate k 0) n ∷ list
-turnOr Cut l n list = list
-turnOr Bad l n list = list
+abbrev pub turnOr : Item → List ℕ → List Carried → List Turn → List Turn
+turnOr (SaveRead a) l ks list = turn (saveRead a) [] ks ∷ list
+turnOr (SaveWrite a v) l ks list = turn (saveWrite a v) [] ks ∷ list
+turnOr EepromRead l ks list = turn eepromRead [] ks ∷ list
+turnOr (EepromWrite v) l ks list = turn (eepromWrite v) [] ks ∷ list
+turnOr (BeginDma words) l ks list = turn (eepromBeginDma words) [] ks ∷ list
+turnOr TakeFlag l ks list = turn takeSaveDirty [] ks ∷ list
+turnOr ChipState l ks list = turn chipState [] ks ∷ list
+turnOr (LoadSave k) l ks list = turn (loadSave (take k (drop 5 l))) [] ks ∷ list
+turnOr (SaveData k) l ks list = turn saveData (replicate k 0) ks ∷ list
+turnOr Cut l ks list = list
+turnOr Bad l ks list = list
 
 unfoldable pub turns : List Place → List Turn
 turns [] = []
@@ -66,7 +66,7 @@ shownBytes eepromRead o = o .refusal ∷ first (o .given) % 256 ∷ []
 shownBytes (loadSave f) o = o .refusal ∷ []
 shownBytes saveData o = o .refusal ∷ (fourBytes (first (o .given)) ++ o .destination)
 shownBytes chipState o = o .refusal ∷ orZeros (o .given)
-shownBytes takeSaveDirty o = o .refusal ∷ []
+shownBytes takeSaveDirty o = o .refusal ∷ bit (o .flag) ∷ []
 
 unfoldable pub callsBytes : List Call → List Shown → List ℕ
 callsBytes [] shown = []

@@ -1,10 +1,11 @@
--- What a replay answers: the machine's run of the list without its cuts. Document 01, "Cut runs", and demand 3.
+-- What a replay answers: the machine's run of the list without its cuts. Document 01, "Cut runs", demand 3, and
+-- document 02, ticket 5: each cut carries layout 2.
 use mathlib.Core.Bool.{cond}
 use mathlib.Core.List.{List, [], _∷_, _++_}
 use Prim.Native.Nat.{ℕ, _+_, _/_, _%_}
 use lib.Dec.{eqb}
 use lib.ListN.{length, take, drop, replicate}
-use Rattle.lists.specs.Lists.{into}
+use Rattle.lists.specs.Lists.{into, bit}
 use Rattle.lists.specs.Questions.{Question, asked}
 use Rattle.kind.specs.Kind.{tallyCount, usesEeprom, detectSaveType}
 use Rattle.cart.specs.declared.Cartridge.{Cartridge}
@@ -12,7 +13,7 @@ use Rattle.cart.specs.declared.Reply.{Reply}
 use Rattle.cart.specs.Record.{State, Outcome, openQuestions, fromBytes}
 use Rattle.cart.specs.Calls.{saveRead, saveWrite, eepromBeginDma, eepromWrite, eepromRead}
 use Rattle.cart.specs.Calls.{loadSave, saveData, chipState, takeSaveDirty, step}
-use Rattle.cart.specs.Cut.{cut}
+use Rattle.cart.specs.Cut.{twenty, cut}
 use Rattle.cart.specs.Replies.{first}
 use Rattle.state_calls.specs.StateAnswer.{orZeros}
 use Rattle.call_list.specs.declared.Item.{Item}
@@ -33,13 +34,16 @@ answered bytes next = record { bytes = bytes; next = next }
 abbrev pub fourBytes : ℕ → List ℕ
 fourBytes n = n / 16777216 % 256 ∷ n / 65536 % 256 ∷ n / 256 % 256 ∷ n % 256 ∷ []
 
--- a refusal's number or 0; then the byte that a call answers, the chip state, or a file's length and the destination,
--- all 0 if refused. "Left out are the answer of `take_save_dirty`": it is a status alone
+-- a refusal's number or 0; then the byte that a call answers, the flag, the chip state, or a file's length and the
+-- destination, all 0 if refused
 abbrev pub statusAnswer : Outcome → Answered
 statusAnswer o = answered (o .refusal ∷ []) (o .next)
 
 abbrev pub valueAnswer : Outcome → Answered
 valueAnswer o = answered (o .refusal ∷ first (o .given) % 256 ∷ []) (o .next)
+
+abbrev pub flagAnswer : Outcome → Answered
+flagAnswer o = answered (o .refusal ∷ bit (o .flag) ∷ []) (o .next)
 
 abbrev pub recordAnswer : Outcome → Answered
 recordAnswer o = answered (o .refusal ∷ orZeros (o .given)) (o .next)
@@ -68,7 +72,7 @@ play atCut (SaveWrite a v) l s = statusAnswer (step (saveWrite a v) [] s)
 play atCut EepromRead l s = valueAnswer (step eepromRead [] s)
 play atCut (EepromWrite v) l s = statusAnswer (step (eepromWrite v) [] s)
 play atCut (BeginDma words) l s = statusAnswer (step (eepromBeginDma words) [] s)
-play atCut TakeFlag l s = statusAnswer (step takeSaveDirty [] s)
+play atCut TakeFlag l s = flagAnswer (step takeSaveDirty [] s)
 play atCut ChipState l s = recordAnswer (step chipState [] s)
 play atCut (LoadSave n) l s = statusAnswer (step (loadSave (take n (drop 5 l))) [] s)
 play atCut (SaveData n) l s = fileAnswer (exportInto n s)
@@ -82,8 +86,8 @@ playAll atCut (p ∷ list) s =
     let r = playAll atCut list (a .next) in
     answered (a .bytes ++ r .bytes) (r .next)
 
--- "at the list's end the file, or that there is none, and the 18 bytes": an export into as many zeros as the memory
--- has bytes, and `chip_state`
+-- "at the list's end the file, or that there is none, and the 18 bytes", or 20: an export into as many zeros as the
+-- memory has bytes, and `chip_state`
 unfoldable pub ending : State → List ℕ
 ending s = fileAnswer (exportInto (length (s .memory)) s) .bytes ++ recordAnswer (step chipState [] s) .bytes
 
@@ -93,7 +97,7 @@ notCut s = s
 
 -- and one that is cut; the opening is passed memory and tallies as they are
 abbrev pub cutAt : List ℕ → ℕ → State → State
-cutAt image part s = cut image part (s .memory) (s .tallies) s
+cutAt image part s = cut image part (s .memory) (s .tallies) twenty s
 
 -- the memory that a run leaves, and the output with its answers at the front
 abbrev pub shownBy : Answered → List ℕ → List ℕ × List ℕ

@@ -68,7 +68,7 @@ pub fn play(
             serial_calls::eeprom_begin_dma(cart, words as usize),
             out,
         ),
-        Item::TakeFlag => show_status(state_calls::take_save_dirty(cart), out),
+        Item::TakeFlag => show_value(state_calls::take_save_dirty(cart), out),
         Item::ChipState => {
             put_state(out, state_calls::chip_state(cart));
             cart

@@ -9,8 +9,8 @@ use Rattle.cart.specs.Replies.{state, tallied}
 use Rattle.cart.proofs.Stretches.{stretches}
 use Rattle.call_list.specs.declared.Item.{Item}
 use Rattle.call_list.specs.Items.{itemRoom}
-use Rattle.replay.specs.Replay.{statusAnswer, valueAnswer, recordAnswer, fileAnswer, left, play, cutAt}
-use Rattle.replay.proofs.Shown.{shows-status, beside, shows-value, shows-state, export-next, nothing, load-ends, loaded-part, file-room}
+use Rattle.replay.specs.Replay.{statusAnswer, valueAnswer, flagAnswer, recordAnswer, fileAnswer, left, play, cutAt}
+use Rattle.replay.proofs.Shown.{shows-status, beside, shows-value, shows-flag, shows-state, export-next, nothing, load-ends, loaded-part, file-room}
 use borrow.Author.Needs.{needs}
 use Rattle.replay.proofs.playing.play.Statement.{statement}
 use Rattle.replay.proofs.playing.play.Tie as tie
@@ -30,8 +30,8 @@ show-status-requires-2 c κs = c .before .before .before .before .before .before
 show-status-requires-3 : tie.Need-show-status-requires-3
 show-status-requires-3 c κs = c .before .before .before .before .before .before .before .before .before .before .before .pre .1 .0 ∙ ap itemRoom (c .before .before .before .item4 .given .1)
 
-show-status-requires-4 : tie.Need-show-status-requires-4
-show-status-requires-4 c κs = c .before .before .before .before .before .before .before .before .before .before .pre .1 .0 ∙ ap itemRoom (c .before .before .enum-told2 .given .1)
+show-value-requires-3 : tie.Need-show-value-requires-3
+show-value-requires-3 c κs = c .before .before .before .before .before .before .before .before .before .before .pre .1 .0 ∙ ap itemRoom (c .before .before .enum-told2 .given .1)
 
 put-state-requires : tie.Need-put-state-requires
 put-state-requires c κs = (c .before .before .before .before .before .before .before .before .before .before .pre .1 .0 ∙ ap itemRoom (c .before .before .enum-told3 .given .1), search needs)
@@ -42,8 +42,8 @@ add-end c = record { fits = omega (arith, load-ends (c .before .before .before .
 part-load-save-end : tie.Need-part-load-save-end
 part-load-save-end c = load-ends (c .before .before .before .before .before .before .before .before .before .before .before .args .item) _ (length (c .before .before .before .before .before .before .before .before .before .before .before .args .list .now)) (c .before .before .before .item5 .given .1) (c .before .before .before .before .before .before .before .before .before .before .before .pre .0)
 
-show-status-requires-5 : tie.Need-show-status-requires-5
-show-status-requires-5 c κs = c .before .before .before .before .before .before .before .before .before .before .before .before .before .before .before .before .before .before .pre .1 .0 ∙ ap itemRoom (c .before .before .before .before .before .before .before .before .before .before .item5 .given .1)
+show-status-requires-4 : tie.Need-show-status-requires-4
+show-status-requires-4 c κs = c .before .before .before .before .before .before .before .before .before .before .before .before .before .before .before .before .before .before .pre .1 .0 ∙ ap itemRoom (c .before .before .before .before .before .before .before .before .before .before .item5 .given .1)
 
 put-file-requires : tie.Need-put-file-requires
 put-file-requires c κs = omega (arith, c .before .before .before .before .before .before .before .before .before .before .pre .1 .0, ap itemRoom (c .before .before .enum-told4 .given .1))
@@ -102,8 +102,8 @@ returns-6 c = let a = c .before .before .before .before .before .before .before 
     let ts = a .tallies .now in
     let u = state (a .cart) (a .memory .now) in
     let s = tallied (a .cart) (a .memory .now) ts in
-    shows-status (beside ts (c .before .before .before .before .take-save-dirty .ensures (a .memory .now))) (c .before .before .show-status4 .ensures)
-    ∙ ap (λ (o : Outcome). left (statusAnswer o)) (sym (stretches .apart ts takeSaveDirty [] u refl))
+    shows-flag (step takeSaveDirty [] u) ts (c .before .before .before .before .take-save-dirty .ensures (a .memory .now)) (c .before .before .show-value3 .ensures)
+    ∙ ap (λ (o : Outcome). left (flagAnswer o)) (sym (stretches .apart ts takeSaveDirty [] u refl))
     ∙ ap (λ (i : Item). left (play (cutAt (a .image .now) (a .part)) i (a .list .now) s)) (sym (c .before .before .before .before .before .enum-told2 .given .1))
 
 returns-7 : tie.Need-returns-7
@@ -122,7 +122,7 @@ returns-8 c = let a = c .before .before .before .before .before .before .before 
     let ts = a .tallies .now in
     let u = state (a .cart) (a .memory .now) in
     let s = tallied (a .cart) (a .memory .now) ts in
-    shows-status (c .before .before .before .before .before .before .before .before .load-save .ensures) (c .before .before .show-status5 .ensures)
+    shows-status (c .before .before .before .before .before .before .before .before .load-save .ensures) (c .before .before .show-status4 .ensures)
     ∙ ap (λ (f : List ℕ). left (statusAnswer (step (loadSave f) [] s))) (loaded-part (c .before .before .before .before .before .before .before .before .before .before .before .before .before .item5 .given .0 .0) (a .list .now))
     ∙ ap (λ (i : Item). left (play (cutAt (a .image .now) (a .part)) i (a .list .now) s)) (sym (c .before .before .before .before .before .before .before .before .before .before .before .before .before .item5 .given .1))
 
@@ -177,7 +177,7 @@ play-spec =
     show-status-requires-3
     (λ c. search needs)
     (λ c κs. search needs)
-    show-status-requires-4
+    show-value-requires-3
     (λ c. search needs)
     (λ c κs. search needs)
     put-state-requires
@@ -187,7 +187,7 @@ play-spec =
     (λ c. search needs)
     part-load-save-end
     (λ c κs. search needs)
-    show-status-requires-5
+    show-status-requires-4
     (λ c. search needs)
     put-file-requires
     (λ c. search needs)
