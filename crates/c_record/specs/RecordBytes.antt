@@ -11,7 +11,7 @@ use Rattle.image.specs.Image.{imageLength}
 use Rattle.kind.specs.Kind.{kindNumber, kindOf}
 use Rattle.part.specs.Part.{partNumber, partOf, numberFits}
 use Rattle.cart.specs.declared.Cartridge.{Cartridge}
-use Rattle.cart.specs.ChipState.{stateSize, chipBytes, chipOf, fieldQuestions}
+use Rattle.cart.specs.ChipState.{chipRecordSize, chipBytes, chipOf, fieldQuestions}
 use Rattle.cart.specs.Record.{State, recordAllowed}
 use Rattle.cart.specs.Replies.{tallied}
 
@@ -37,7 +37,7 @@ recordBytes c =
     ++ (kindNumber (c .kind) ∷ bit (c .dirty) ∷ (chipBytes (c .chip) ++ (partNumber (c .part) ∷ [])))
 
 abbrev pub chipIn : List ℕ → List ℕ
-chipIn r = take stateSize (drop chipAt r)
+chipIn r = take chipRecordSize (drop chipAt r)
 
 unfoldable pub cartOf : List ℕ → Cartridge
 cartOf r =

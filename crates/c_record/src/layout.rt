@@ -1,5 +1,5 @@
 // The bytes of a cartridge record: how many they are, and where each field is.
-use cart::STATE_SIZE;
+use cart::CHIP_SIZE;
 use cart::layout;
 
 pub const RECORD_SIZE: usize = 25;
@@ -11,7 +11,7 @@ pub const KIND: usize = 4;
 
 pub const DIRTY: usize = 5;
 
-// the chip record, as `chip_state` writes it
+// the chip record, as `chip_state` writes it first
 pub const CHIP: usize = 6;
 
 pub const FLASH_STATE: usize = CHIP + layout::FLASH_STATE;
@@ -34,4 +34,4 @@ pub const PLACE: usize = CHIP + layout::PLACE;
 
 pub const ACC: usize = CHIP + layout::ACC;
 
-pub const PART: usize = CHIP + STATE_SIZE;
+pub const PART: usize = CHIP + CHIP_SIZE;

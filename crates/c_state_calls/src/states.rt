@@ -2,13 +2,16 @@
 use c_record::RecordBytes;
 use c_record::layout;
 use cart::StateBytes;
+use cart::layout as state;
 ghost use mathlib.Core.Path.{_≡_};
-ghost use mathlib.Core.List.{List};
+ghost use mathlib.Core.Bool.{cond};
+ghost use mathlib.Core.List.{List, [], _∷_, _++_};
 ghost use Prim.Native.Nat.{ℕ};
-ghost use lib.ListN.{length};
+ghost use lib.ListN.{length, getD, set};
 ghost use Rattle.lists.specs.Lists.{withPart};
-ghost use Rattle.cart.specs.ChipState.{stateSize};
-ghost use Rattle.c_record.specs.RecordBytes.{recordSize, chipAt, chipIn};
+ghost use Rattle.cart.specs.ChipState.{chipRecordSize};
+ghost use Rattle.cart.specs.States.{stateSize, layoutNumber, flagAt, isLayout2};
+ghost use Rattle.c_record.specs.RecordBytes.{recordSize, dirtyAt, chipAt, chipIn};
 ghost use Rattle.c_record.specs.Calls.{opens, givesState, restores};
 
 // The record is written whatever it was: all 0 if the opening is refused.
@@ -28,19 +31,34 @@ pub fn from_bytes(
     opened.refusal as u32
 }
 
-// The chip record's bytes, out of a record and into one.
+// A state of layout 2, out of a record: the chip record's bytes, the flag, the layout's number.
 fn copy_out(cart: &[u8], bytes: &mut [u8])
     requires { ⌜ (length (now cart) ≡ recordSize) × (length (now bytes) ≡ stateSize) ⌝ }
-    ensures { λ _. ⌜ now (bytes .exit) ≡ chipIn (now (cart .entry)) ⌝ }
+    ensures { λ _. ⌜ now (bytes .exit)
+        ≡ chipIn (now (cart .entry)) ++ (getD (now (cart .entry)) dirtyAt 0 ∷ layoutNumber ∷ []) ⌝ }
 {
     memory::copy_file(bytes, &cart[layout::CHIP..layout::PART]);
+    bytes[state::FLAG] = cart[layout::DIRTY];
+    bytes[state::LAYOUT] = state::LAYOUT_2;
 }
 
+// The chip record's bytes and the flag, into a record; 18 bytes leave the flag.
 fn copy_in(cart: &mut [u8], bytes: &[u8])
-    requires { ⌜ (length (now cart) ≡ recordSize) × (length (now bytes) ≡ stateSize) ⌝ }
+    requires { ⌜ (length (now cart) ≡ recordSize) × (length (now bytes) ≡ chipRecordSize) ⌝ }
     ensures { λ _. ⌜ now (cart .exit) ≡ withPart (now (cart .entry)) chipAt (now (bytes .entry)) ⌝ }
 {
     memory::copy_file(&mut cart[layout::CHIP..layout::PART], bytes);
+}
+
+fn put_flag(cart: &mut RecordBytes, bytes: &[u8])
+    ensures { λ _. ⌜ (let r = now (cart .entry) in
+        let b = now (bytes .entry) in
+        now (cart .exit) ≡ cond (isLayout2 b) (set r dirtyAt (getD b flagAt 0)) r) ⌝ }
+{
+    if bytes.len() != state::STATE_SIZE {
+        return;
+    }
+    cart[layout::DIRTY] = bytes[state::FLAG];
 }
 
 // The calls below take no memory; their contracts hold for any memory.
@@ -68,6 +86,7 @@ pub fn restore_chip_state(cart: &mut RecordBytes, bytes: &[u8]) -> u32
     if refusal != 0 {
         return refusal as u32;
     }
-    copy_in(&mut cart[..], bytes);
+    copy_in(&mut cart[..], &bytes[..state::CHIP_SIZE]);
+    put_flag(cart, bytes);
     0
 }

@@ -71,6 +71,11 @@ chip-allowed c f s =
       ),
     )
 
+-- a record's own bytes are 18
+pub own-size : (c : ChipRecord) → length (chipBytes c) ≡ 18
+unfolding chipBytes lowFirst
+own-size c = refl
+
 -- what restore takes a record's 18 bytes for
 pub chip-back : (c : ChipRecord) → c .eeprom .acc < 2 ^ 64 → chipOf (chipBytes c) ≡ c
 unfolding chipOf chipBytes lowFirst
