@@ -123,12 +123,12 @@ answer-seen : (flags : Bool) (o p : Outcome) → outcomeSeen flags o ≡ outcome
 answer-seen true o p e = ap (λ (x : Outcome). shown x) e
 answer-seen false o p e = ap (λ (x : Outcome). shown x) e
 
-quiet-seen : (flags : Bool) (s t : State) → stateSeen flags s ≡ stateSeen flags t → quiet s ≡ quiet t
+pub quiet-seen : (flags : Bool) (s t : State) → stateSeen flags s ≡ stateSeen flags t → quiet s ≡ quiet t
 quiet-seen true s t e = ap quiet e
 quiet-seen false s t e = e
 
 -- any number of cuts; where the flag is seen, each carries it
-flag-seen : (flags : Bool) (v : Carried) (vs : List Carried) (s t : State) → (flags ≡ true → carriesFlag (v ∷ vs) ≡ true)
+pub flag-seen : (flags : Bool) (v : Carried) (vs : List Carried) (s t : State) → (flags ≡ true → carriesFlag (v ∷ vs) ≡ true)
     → (stateSeen flags (withFlag (flagOf v s t) s) ≡ stateSeen flags s) × (flags ≡ true → carriesFlag vs ≡ true)
 flag-seen false v vs s t p = (refl, λ z. clash {A = carriesFlag vs ≡ true} refl z)
 flag-seen true eighteen vs s t p = clash {b = false} refl (p refl)

@@ -1,7 +1,7 @@
 -- Demand 3 of the exported calls: what a host holds between them are the machine's states, as bytes. Assumes nothing.
 use mathlib.Core.Path.{_≡_, refl, sym, ap, ap₂, subst, _∙_}
-use mathlib.Core.Bool.{Bool, true, false}
-use mathlib.Core.List.{List, [], _∷_, List·Memᴰ·head, List·Memᴰ·tail}
+use mathlib.Core.Bool.{Bool, true, false, cond, _&&_}
+use mathlib.Core.List.{List, [], _∷_, map, List·Memᴰ·head, List·Memᴰ·tail}
 use mathlib.Core.Option.{Option, none, some}
 use Prim.Native.Nat.{ℕ, _^_, _≤_, _<_}
 use native.Mathlib.Nat.{pow-succ'}
@@ -12,7 +12,7 @@ use lib.Pow.{areBytes}
 use borrow.Author.Tests.{eq-eqb, ne-eqb}
 use Rattle.lists.specs.Lists.{lowValue}
 use Rattle.lists.specs.Questions.{asked}
-use Rattle.lists.proofs.Bools.{split}
+use Rattle.lists.proofs.Bools.{split, and-left, and-right}
 use Rattle.lists.proofs.Parts.{front-of}
 use Rattle.lists.proofs.Digits.{bytes-drop, bytes-take, byte-lt}
 use Rattle.kind.specs.Kind.{memorySize, usesEeprom, detectSaveType}
@@ -24,22 +24,24 @@ use Rattle.cart.specs.Record.{State, Outcome, recordAllowed, fresh, fromBytes}
 use Rattle.cart.specs.Calls as machine
 use Rattle.cart.specs.Calls.{Call, step, restore, load, fileOf, exported, importQuestions}
 use Rattle.cart.specs.Cut as uncutMachine
-use Rattle.cart.specs.Resume.{Open, withFlag}
-use Rattle.cart.specs.Replies.{tallied}
+use Rattle.cart.specs.Cut.{Carried, carried, flagLeftOut}
+use Rattle.cart.specs.Resume.{Open, withFlag, flagOf}
+use Rattle.cart.specs.Replies.{tallied, first}
 use Rattle.cart.specs.Stretches.{takesTallies, withTallies, besideTallies}
 use Rattle.cart.proofs.Sound.{Sound, record-allowed, memory-fits, sound-fresh, opened}
 use Rattle.cart.proofs.Tallies.{Fit, right-fit}
 use Rattle.cart.proofs.Stretches.{stretches}
 use Rattle.cart.proofs.Recoverable.{Recoverable, NoByteWrite, recoverable-step, recoverable-fresh}
-use Rattle.cart.proofs.Resume.{Long, file-long, export-accepted, state-accepted, file-left, bytes-left, load-allowed, load-next, acc-lt, resumed-is, open-fresh, quiet}
-use Rattle.cart.proofs.CutRuns.{unflagged, either-quiet, step-same, recoverable-flag, left-same}
+use Rattle.cart.proofs.Resume.{Long, file-long, export-accepted, state-accepted, file-left, bytes-left, load-allowed, load-next, acc-lt, resumed-is, open-fresh}
+use Rattle.cart.proofs.CutRuns.{quiet, unflagged, either-quiet, recoverable-flag, stateSeen, outcomeSeen, step-seen, next-seen, quiet-seen, flag-seen, file-same, bytes-same}
+use Rattle.out_params.specs.Places.{placed}
 use Rattle.c_record.specs.RecordBytes.{recordBytes, chipIn, cartOf, isRecord, stateOf}
 use Rattle.c_record.specs.AtExit.{AtExit, left, called, plain, valueAt, changedAt, importAt, flagAt, stateAt, exportAt}
 use Rattle.c_record.proofs.RecordBytes.{yes, record-and-bytes}
 use Rattle.cart_abi.specs.Host.{ExportedCall, saveRead, saveWrite, eepromBeginDma, eepromWrite, eepromRead, loadSave, saveData, chipState, takeSaveDirty, importSave}
-use Rattle.cart_abi.specs.Host.{Bytes, Found, Made, plainly, valued, stored, imported, filed, stated, flagged, make}
+use Rattle.cart_abi.specs.Host.{Bytes, Found, found, foundState, foundFlag, Made, plainly, valued, stored, imported, filed, stated, flagged, make}
 use Rattle.cart_abi.specs.CutBytes as bytes
-use Rattle.cart_abi.specs.CutBytes.{Target, anew, inPlace, Buffers, Turn, before, outcomeOf, foundOf, machineRun, callsOf, uncut, NoByteWrites, ExportedCutRuns}
+use Rattle.cart_abi.specs.CutBytes.{Target, anew, inPlace, Buffers, Turn, before, outcomeOf, foundOf, machineRun, callsOf, uncut, allCarry, allCarryFlag, foundSeen, seen, NoByteWrites, ExportedCutRuns}
 
 abbrev bytesOf : State → Bytes
 bytesOf s = record { bytes = recordBytes (s .cart); memory = s .memory; tallies = s .tallies }
@@ -70,34 +72,59 @@ untallied : (c : Call) (d : List ℕ) (s : State) → takesTallies c ≡ false �
 untallied c d s e k = at-apart (step c d) d s (record-allowed s k) (acc-lt s k) (stretches .apart (s .tallies) c d (withTallies [] s) e)
 
 -- what a host finds, and goes on with
-abbrev seen : Made → Found × Bytes
-seen m = (m .found, m .next)
+abbrev both : Made → Found × Bytes
+both m = (m .found, m .next)
 
-make-is : (c : ExportedCall) (s : State) → Sound s → seen (make c (bytesOf s)) ≡ (foundOf c (outcomeOf c s), bytesOf (outcomeOf c s .next))
+make-is : (c : ExportedCall) (s : State) → Sound s → both (make c (bytesOf s)) ≡ (foundOf c (outcomeOf c s), bytesOf (outcomeOf c s .next))
 unfolding make
-make-is (saveRead a p) s k = ap (λ (x : AtExit). seen (valued (x .tallies) (valueAt p x))) (untallied (machine.saveRead a) [] s refl k)
-make-is (saveWrite a v p) s k = ap (λ (x : AtExit). seen (stored (changedAt p x))) (at-record (step (machine.saveWrite a v) []) [] s k)
-make-is (eepromBeginDma words) s k = ap (λ (x : AtExit). seen (plainly (x .tallies) (plain x))) (untallied (machine.eepromBeginDma words) [] s refl k)
-make-is (eepromWrite v p) s k = ap (λ (x : AtExit). seen (stored (changedAt p x))) (at-record (step (machine.eepromWrite v) []) [] s k)
-make-is (eepromRead p) s k = ap (λ (x : AtExit). seen (valued (x .tallies) (valueAt p x))) (untallied machine.eepromRead [] s refl k)
-make-is (loadSave f p) s k = ap (λ (x : AtExit). seen (stored (changedAt p x))) (at-record (step (machine.loadSave f) []) [] s k)
-make-is (saveData d p) s k = ap (λ (x : AtExit). seen (filed (x .tallies) (exportAt p x))) (untallied machine.saveData d s refl k)
-make-is (chipState p) s k = ap (λ (x : AtExit). seen (stated (x .tallies) (stateAt p x))) (untallied machine.chipState [] s refl k)
-make-is (takeSaveDirty p) s k = ap (λ (x : AtExit). seen (flagged (x .tallies) (flagAt p x))) (untallied machine.takeSaveDirty [] s refl k)
-make-is (importSave f q p) s k = ap (λ (x : AtExit). seen (imported (importAt q p x))) (at-record (machine.importSave f) [] s k)
+make-is (saveRead a p) s k = ap (λ (x : AtExit). both (valued (x .tallies) (valueAt p x))) (untallied (machine.saveRead a) [] s refl k)
+make-is (saveWrite a v p) s k = ap (λ (x : AtExit). both (stored (changedAt p x))) (at-record (step (machine.saveWrite a v) []) [] s k)
+make-is (eepromBeginDma words) s k = ap (λ (x : AtExit). both (plainly (x .tallies) (plain x))) (untallied (machine.eepromBeginDma words) [] s refl k)
+make-is (eepromWrite v p) s k = ap (λ (x : AtExit). both (stored (changedAt p x))) (at-record (step (machine.eepromWrite v) []) [] s k)
+make-is (eepromRead p) s k = ap (λ (x : AtExit). both (valued (x .tallies) (valueAt p x))) (untallied machine.eepromRead [] s refl k)
+make-is (loadSave f p) s k = ap (λ (x : AtExit). both (stored (changedAt p x))) (at-record (step (machine.loadSave f) []) [] s k)
+make-is (saveData d p) s k = ap (λ (x : AtExit). both (filed (x .tallies) (exportAt p x))) (untallied machine.saveData d s refl k)
+make-is (chipState p) s k = ap (λ (x : AtExit). both (stated (x .tallies) (stateAt p x))) (untallied machine.chipState [] s refl k)
+make-is (takeSaveDirty p) s k = ap (λ (x : AtExit). both (flagged (x .tallies) (flagAt p x))) (untallied machine.takeSaveDirty [] s refl k)
+make-is (importSave f q p) s k = ap (λ (x : AtExit). both (imported (importAt q p x))) (at-record (machine.importSave f) [] s k)
 
--- what is compared does not show the flag
-found-quiet : (c : ExportedCall) (o : Outcome) → foundOf c (unflagged o) ≡ foundOf c o
-found-quiet (saveRead a p) o = refl
+-- what is compared without the flag is found of an outcome without it
+first-quiet : (l : List ℕ) → first (flagLeftOut l) ≡ first l
+first-quiet [] = refl
+first-quiet (n ∷ l) = refl
+
+placed-quiet : (b : Bool) (g p : List ℕ) → flagLeftOut (cond b g p) ≡ cond b (flagLeftOut g) (flagLeftOut p)
+placed-quiet true g p = refl
+placed-quiet false g p = refl
+
+abbrev quietly : ExportedCall → Outcome → Found
+quietly (saveRead a p) o = foundOf (saveRead a p) o
+quietly (saveWrite a v p) o = foundOf (saveWrite a v p) o
+quietly (eepromBeginDma words) o = foundOf (eepromBeginDma words) o
+quietly (eepromWrite v p) o = foundOf (eepromWrite v p) o
+quietly (eepromRead p) o = foundOf (eepromRead p) o
+quietly (loadSave f p) o = foundOf (loadSave f p) o
+quietly (saveData d p) o = foundOf (saveData d p) o
+quietly (chipState p) o = foundOf (chipState (flagLeftOut p)) o
+quietly (takeSaveDirty p) o = foundFlag (o .refusal) 0
+quietly (importSave f k p) o = foundOf (importSave f k p) o
+
+found-quiet : (c : ExportedCall) (o : Outcome) → foundSeen false (foundOf c o) ≡ quietly c (unflagged o)
+found-quiet (saveRead a p) o = ap (λ (v : ℕ). found (o .refusal) (placed (o .refusal) v p) 0 []) (sym (first-quiet (o .given)))
 found-quiet (saveWrite a v p) o = refl
 found-quiet (eepromBeginDma words) o = refl
 found-quiet (eepromWrite v p) o = refl
-found-quiet (eepromRead p) o = refl
+found-quiet (eepromRead p) o = ap (λ (v : ℕ). found (o .refusal) (placed (o .refusal) v p) 0 []) (sym (first-quiet (o .given)))
 found-quiet (loadSave f p) o = refl
-found-quiet (saveData d p) o = refl
-found-quiet (chipState p) o = refl
+found-quiet (saveData d p) o = ap (λ (v : ℕ). found (o .refusal) (placed (o .refusal) v p) 0 (o .destination)) (sym (first-quiet (o .given)))
+found-quiet (chipState p) o = ap (foundState (o .refusal)) (placed-quiet (eqb (o .refusal) 0) (o .given) p)
 found-quiet (takeSaveDirty p) o = refl
-found-quiet (importSave f q p) o = refl
+found-quiet (importSave f k p) o =
+    ap (λ (v : ℕ). found (o .refusal) (placed (o .refusal) v k) (placed (o .refusal) (o .changed) p) []) (sym (first-quiet (o .given)))
+
+found-seen : (flags : Bool) (c : ExportedCall) (o q : Outcome) → outcomeSeen flags o ≡ outcomeSeen flags q → foundSeen flags (foundOf c o) ≡ foundSeen flags (foundOf c q)
+found-seen true c o q e = ap (λ (x : Outcome). foundSeen true (foundOf c x)) e
+found-seen false c o q e = found-quiet c o ∙ ap (quietly c) e ∙ sym (found-quiet c q)
 
 -- an import is a load, or it is refused
 recoverable-import : (image : List ℕ) (part : ℕ) (f : List ℕ) (s : State) → Recoverable image part s → Recoverable image part (machine.importSave f s .next)
@@ -133,9 +160,11 @@ way image (chipState p) n = nine machine.chipState [] (λ a v e. cc)
 way image (takeSaveDirty p) n = nine machine.takeSaveDirty [] (λ a v e. cc)
 way image (importSave f q p) n = import f
 
-way-same : {image : List ℕ} {call : State → Outcome} → Way image call → (s t : State) → quiet s ≡ quiet t → unflagged (call s) ≡ unflagged (call t)
-way-same (nine c d n) s t e = step-same c d s t e
-way-same (import f) s t e = import-same f s t e
+way-same : (flags : Bool) {image : List ℕ} {call : State → Outcome} → Way image call → (s t : State) → stateSeen flags s ≡ stateSeen flags t
+    → outcomeSeen flags (call s) ≡ outcomeSeen flags (call t)
+way-same flags (nine c d n) s t e = step-seen flags c d s t e
+way-same true (import f) s t e = ap (machine.importSave f) e
+way-same false (import f) s t e = import-same f s t e
 
 way-stands : {image : List ℕ} (part : ℕ) {call : State → Outcome} → Way image call → (s : State) → Recoverable image part s → Recoverable image part (call s .next)
 way-stands {image} part (nine c d n) s r = recoverable-step image part c d s n r
@@ -221,91 +250,113 @@ module _ (image : List ℕ) (part : ℕ) (x : Buffers image part) (s : State) (r
       ap (λ (y : AtExit). stateAt (x .state) y .3) (untallied machine.chipState [] s refl k ∙ ap left (state-accepted s (record-allowed s k)))
       ∙ sym (bytes-left s (record-allowed s k))
 
-  -- the flag that the cartridge has in which the host goes on
+  -- the cartridge in which the host goes on, and the flag that it has then
+  abbrev target : State
+  target = begun-is image part (x .target) .at
+
   abbrev flag : Bool
-  flag = begun-is image part (x .target) .at .cart .dirty
+  flag = flagOf (x .carries) s target
 
   cut-is : bytes.cut image part x (bytesOf s) ≡ bytesOf (withFlag flag s)
   unfolding bytes.cut
   cut-is =
       let y = begun-is image part (x .target) in
-      let t : State = y .at in
+      let t : State = target in
+      let v : Carried = x .carries in
       let a = y .isOpen .allowed in
       let m = eq-eqb _ _ (y .isOpen .memoryOk) in
       let f : Option (List ℕ) = uncutMachine.fileLeft s in
-      let b : List ℕ = uncutMachine.bytesLeft s in
+      let b : List ℕ = carried v (uncutMachine.bytesLeft s) in
       let u = right-fit t (y .isOpen .talliesOk) in
       let k = reloaded-kept t a m u (y .accOk) f in
-      ap₂ (λ (l : List ℕ) (o : Option (List ℕ)). bytes.restored l (bytes.reloaded (x .changed) o (bytes.begun (x .target)))) state-is file-is
+      ap₂ (λ (l : List ℕ) (o : Option (List ℕ)). bytes.restored (carried v l) (bytes.reloaded (x .changed) o (bytes.begun (x .target)))) state-is file-is
       ∙ ap (λ (z : Bytes). bytes.restored b (bytes.reloaded (x .changed) f z)) (y .is)
       ∙ ap (bytes.restored b) (reloaded-is t a m u (y .accOk) (x .changed) f)
       ∙ restored-is b (uncutMachine.reloaded f t) (k .0) (k .1)
-      ∙ ap bytesOf (resumed-is image part s t r (y .isOpen))
+      ∙ ap bytesOf (resumed-is image part v s t r (y .isOpen))
 
--- cuts, one after the other: the bytes of a state that differs from s in the flag alone
-record After (image : List ℕ) (part : ℕ) (b : Bytes) (s : State) : Type 0 where
+-- cuts, one after the other: the bytes of a state that is s, or differs from it in the flag alone
+record After (image : List ℕ) (part : ℕ) (flags : Bool) (b : Bytes) (s : State) : Type 0 where
   at : State
   is : b ≡ bytesOf at
-  alike : quiet at ≡ quiet s
+  alike : stateSeen flags at ≡ stateSeen flags s
   stands : Recoverable image part at
 
-cuts-are : (image : List ℕ) (part : ℕ) (xs : List (Buffers image part)) (s : State) → Recoverable image part s → After image part (bytes.cuts image part xs (bytesOf s)) s
+cuts-are : (image : List ℕ) (part : ℕ) (flags : Bool) (xs : List (Buffers image part)) (s : State) → (flags ≡ true → allCarry xs ≡ true) → Recoverable image part s
+    → After image part flags (bytes.cuts image part xs (bytesOf s)) s
 unfolding bytes.cuts
-cuts-are image part [] s r = record { at = s; is = refl; alike = refl; stands = r }
-cuts-are image part (x ∷ xs) s r =
-    let i = cuts-are image part xs (withFlag (flag image part x s r) s) (recoverable-flag image part (flag image part x s r) s r) in
-    record { at = i .at; is = ap (bytes.cuts image part xs) (cut-is image part x s r) ∙ i .is; alike = i .alike; stands = i .stands }
+cuts-are image part flags [] s p r = record { at = s; is = refl; alike = refl; stands = r }
+cuts-are image part flags (x ∷ xs) s p r =
+    let f : Bool = flag image part x s r in
+    let k = flag-seen flags (x .carries) (map (λ (y : Buffers image part). y .carries) xs) s (target image part x s r) p in
+    let i = cuts-are image part flags xs (withFlag f s) (k .1) (recoverable-flag image part f s r) in
+    record { at = i .at; is = ap (bytes.cuts image part xs) (cut-is image part x s r) ∙ i .is; alike = i .alike ∙ k .0; stands = i .stands }
 
 -- the host goes through the list with its cuts from s, the machine without from t
-runs-are : (image : List ℕ) (part : ℕ) (list : List (Turn image part)) (end : Buffers image part) (s t : State) → NoByteWrites image (callsOf list)
-    → quiet s ≡ quiet t → Recoverable image part s → Recoverable image part t
-    → bytes.run image part list end (bytesOf s) ≡ machineRun (callsOf list) t
+runs-are : (image : List ℕ) (part : ℕ) (flags : Bool) (list : List (Turn image part)) (end : Buffers image part) (s t : State) → (flags ≡ true → allCarryFlag list ≡ true)
+    → NoByteWrites image (callsOf list)
+    → stateSeen flags s ≡ stateSeen flags t → Recoverable image part s → Recoverable image part t
+    → seen flags (bytes.run image part list end (bytesOf s)) ≡ seen flags (machineRun (callsOf list) t)
 unfolding bytes.run machineRun
-runs-are image part [] end s t n q r u =
-    let l = left-same s t (r .sound) (u .sound) q in
-    λ i. record { calls = []; file = (file-is image part end s r ∙ l .0) i; state = (state-is image part end s r ∙ l .1) i; tallies = q i .tallies }
-runs-are image part (x ∷ list) end s t n q r u =
+runs-are image part flags [] end s t p n q r u =
+    let z = quiet-seen flags s t q in
+    let f = file-is image part end s r ∙ file-same s t (r .sound) (u .sound) z in
+    let b =
+    ap (λ (l : List ℕ). cond flags l (flagLeftOut l)) (state-is image part end s r)
+    ∙ bytes-same flags s t (r .sound) (u .sound) q
+    in
+    λ i. record { calls = []; file = f i; state = b i; tallies = z i .tallies }
+runs-are image part flags (x ∷ list) end s t p n q r u =
     let c : ExportedCall = x .call in
     let o : State → Outcome = outcomeOf c in
-    let w = way image c (λ a v p e. n a v p (List·Memᴰ·head e)) in
-    let e : unflagged (o s) ≡ unflagged (o t) = way-same w s t q in
-    let f : foundOf c (o s) ≡ foundOf c (o t) =
-    sym (found-quiet c (o s)) ∙ ap (foundOf c) e ∙ found-quiet c (o t)
+    let w = way image c (λ a v k e. n a v k (List·Memᴰ·head e)) in
+    let e : outcomeSeen flags (o s) ≡ outcomeSeen flags (o t) = way-same flags w s t q in
+    let f = found-seen flags c (o s) (o t) e in
+    let here : Bool = allCarry (x .cutsBehind) in
+    let more : Bool = allCarryFlag list in
+    let a = cuts-are image part flags (x .cutsBehind) (o s .next) (λ z. and-left here more (p z)) (way-stands part w s r) in
+    let i : seen flags (bytes.run image part list end (bytes.cuts image part (x .cutsBehind) (bytesOf (o s .next)))) ≡ seen flags (machineRun (callsOf list) (o t .next)) =
+    ap (λ (b : Bytes). seen flags (bytes.run image part list end b)) (a .is)
+    ∙ runs-are image part flags list end (a .at) (o t .next) (λ z. and-right here more (p z)) (λ b v k m. n b v k (List·Memᴰ·tail m)) (a .alike ∙ next-seen flags (o s) (o t) e) (a .stands) (way-stands part w t u)
     in
-    let a = cuts-are image part (x .cutsBehind) (o s .next) (way-stands part w s r) in
-    let i : bytes.run image part list end (bytes.cuts image part (x .cutsBehind) (bytesOf (o s .next))) ≡ machineRun (callsOf list) (o t .next) =
-    ap (bytes.run image part list end) (a .is)
-    ∙ runs-are image part list end (a .at) (o t .next) (λ b v p e. n b v p (List·Memᴰ·tail e)) (a .alike ∙ ap (λ (z : Outcome). z .next) e) (a .stands) (way-stands part w t u)
-    in
-    ap (λ (m : Found × Bytes). before (m .0) (bytes.run image part list end (bytes.cuts image part (x .cutsBehind) (m .1)))) (make-is c s (r .sound))
-    ∙ (λ j. before (f j) (i j))
+    ap (λ (m : Found × Bytes). seen flags (before (m .0) (bytes.run image part list end (bytes.cuts image part (x .cutsBehind) (m .1))))) (make-is c s (r .sound))
+    ∙ (λ j. record { calls = f j ∷ i j .calls; file = i j .file; state = i j .state; tallies = i j .tallies })
 
-with-cuts : (image : List ℕ) (part : ℕ) (memory tallies : List ℕ) (xs : List (Buffers image part)) (list : List (Turn image part)) (end : Buffers image part)
+with-cuts : (image : List ℕ) (part : ℕ) (memory tallies : List ℕ) (flags : Bool) (xs : List (Buffers image part)) (list : List (Turn image part)) (end : Buffers image part)
+    → (flags ≡ true → allCarry xs && allCarryFlag list ≡ true)
     → fromBytes image part memory tallies .refusal ≡ 0 → NoByteWrites image (callsOf list)
-    → bytes.run image part list end (bytes.cuts image part xs (bytes.opened image part memory tallies)) ≡ machineRun (callsOf list) (fromBytes image part memory tallies .next)
-with-cuts image part memory tallies xs list end h n =
+    → seen flags (bytes.run image part list end (bytes.cuts image part xs (bytes.opened image part memory tallies)))
+    ≡ seen flags (machineRun (callsOf list) (fromBytes image part memory tallies .next))
+with-cuts image part memory tallies flags xs list end p h n =
     let s : State = fromBytes image part memory tallies .next in
     let r : Recoverable image part s = rw (opened image part memory tallies h) (recoverable-fresh image part memory tallies h) in
-    let a = cuts-are image part xs s r in
-    ap (bytes.run image part list end) (a .is) ∙ runs-are image part list end (a .at) s n (a .alike) (a .stands) r
+    let a = cuts-are image part flags xs s (λ z. and-left (allCarry xs) (allCarryFlag list) (p z)) r in
+    ap (λ (b : Bytes). seen flags (bytes.run image part list end b)) (a .is)
+    ∙ runs-are image part flags list end (a .at) s (λ z. and-right (allCarry xs) (allCarryFlag list) (p z)) n (a .alike) (a .stands) r
 
 calls-uncut : {image : List ℕ} {part : ℕ} (list : List (Turn image part)) → callsOf (uncut list) ≡ callsOf list
 calls-uncut [] = refl
 calls-uncut (x ∷ list) = ap (λ (l : List ExportedCall). x .call ∷ l) (calls-uncut list)
 
-without-cuts : (image : List ℕ) (part : ℕ) (memory tallies : List ℕ) (list : List (Turn image part)) (end : Buffers image part)
+uncut-carries : {image : List ℕ} {part : ℕ} (list : List (Turn image part)) → allCarryFlag (uncut list) ≡ true
+uncut-carries [] = refl
+uncut-carries (x ∷ list) = uncut-carries list
+
+without-cuts : (image : List ℕ) (part : ℕ) (memory tallies : List ℕ) (flags : Bool) (list : List (Turn image part)) (end : Buffers image part)
     → fromBytes image part memory tallies .refusal ≡ 0 → NoByteWrites image (callsOf list)
-    → bytes.run image part (uncut list) end (bytes.opened image part memory tallies) ≡ machineRun (callsOf list) (fromBytes image part memory tallies .next)
+    → seen flags (bytes.run image part (uncut list) end (bytes.opened image part memory tallies)) ≡ seen flags (machineRun (callsOf list) (fromBytes image part memory tallies .next))
 unfolding bytes.cuts
-without-cuts image part memory tallies list end h n =
+without-cuts image part memory tallies flags list end h n =
     let e = calls-uncut list in
-    with-cuts image part memory tallies [] (uncut list) end h (subst (NoByteWrites image) (sym e) n)
-    ∙ ap (λ (l : List ExportedCall). machineRun l (fromBytes image part memory tallies .next)) e
+    with-cuts image part memory tallies flags [] (uncut list) end (λ z. uncut-carries list) h (subst (NoByteWrites image) (sym e) n)
+    ∙ ap (λ (l : List ExportedCall). seen flags (machineRun l (fromBytes image part memory tallies .next))) e
 
 pub exported-cut-runs : ExportedCutRuns
 exported-cut-runs =
     record {
-      asMachine = with-cuts;
+      asMachine = λ image part memory tallies xs list end h n.
+          with-cuts image part memory tallies (allCarry xs && allCarryFlag list) xs list end (λ z. z) h n;
       asUncut = λ image part memory tallies xs list end h n.
-          with-cuts image part memory tallies xs list end h n ∙ sym (without-cuts image part memory tallies list end h n);
+          with-cuts image part memory tallies (allCarry xs && allCarryFlag list) xs list end (λ z. z) h n
+          ∙ sym (without-cuts image part memory tallies (allCarry xs && allCarryFlag list) list end h n);
     }

@@ -15,18 +15,18 @@ use Rattle.title.specs.Title.{titleQuestions, headerTitle}
 use Rattle.file_sizes.specs.SaveFit.{keptPart}
 use Rattle.out_params.specs.Places.{placed, answeredAt, titleAt}
 use Rattle.cart.specs.declared.Cartridge.{Cartridge}
-use Rattle.cart.specs.ChipState.{chipOf}
 use Rattle.cart.specs.Record.{State, Outcome, guarded, refused, counted, openQuestions, outcome, fromBytes}
 use Rattle.cart.specs.Calls as machine
-use Rattle.cart.specs.Calls.{Call, chipWith, load, questions, accepted, step, restoreQuestions, restore, importQuestions}
+use Rattle.cart.specs.Calls.{Call, load, questions, accepted, step, restoreQuestions, restore, importQuestions}
 use Rattle.cart.proofs.Counts.{accepted-0}
+use Rattle.cart.proofs.Restore.{restoring}
 use Rattle.c_record.specs.RecordBytes.{cartOf, isRecord, stateOf}
 use Rattle.c_record.specs.AtExit.{AtExit, left, untouched, called, plain, talliedAt, valueAt, changedAt, importAt, flagAt, stateAt, exportAt, askedAt}
 use Rattle.c_record.specs.Calls as calls
 use Rattle.c_matcher_calls.specs.Calls.{searches, feeds}
 use Rattle.c_record.proofs.RecordBytes.{record-and-bytes}
 use Rattle.cart_abi.specs.Host.{ExportedCall, saveRead, saveWrite, eepromBeginDma, eepromWrite, eepromRead, loadSave, saveData, chipState, takeSaveDirty, importSave}
-use Rattle.cart_abi.specs.Host.{Bytes, found, made, plainly, valued, stored, imported, filed, stated, flagged, make}
+use Rattle.cart_abi.specs.Host.{Bytes, found, foundState, foundFlag, made, plainly, valued, stored, imported, filed, stated, flagged, make}
 use Rattle.cart_abi.specs.Claims.{unchanged, RefusedLeaves}
 
 -- the machine's calls on a record, each with the destination that it is passed
@@ -45,7 +45,7 @@ guarded-leaves qs d s o z =
 machine-leaves : {call : State → Outcome} {d : List ℕ} → MachineCall call d → (s : State) → call s .refusal ≢ 0 → call s ≡ refused (call s .refusal) s d
 unfolding step restore machine.importSave
 machine-leaves (ofNine c d) s = guarded-leaves (questions c d s) d s (counted s (accepted c d s)) (accepted-0 c d s .0)
-machine-leaves (ofRestore b) s = guarded-leaves (restoreQuestions b s) [] s (outcome [] (chipWith s (s .cart .dirty) (chipOf b)) []) refl
+machine-leaves (ofRestore b) s = guarded-leaves (restoreQuestions b s) [] s (outcome [] (restoring b s) []) refl
 machine-leaves (ofImport f) s =
     let part = keptPart (s .cart .kind) f in
     guarded-leaves (importQuestions f s) [] s (counted s (outcome (length part ∷ []) (load s part) [])) refl
@@ -77,28 +77,28 @@ module _ {call : State → Outcome} {d : List ℕ} (q : MachineCall call d) (b :
   abbrev leaves : exit ≡ untouched n d (b .bytes) (b .memory) ts
   leaves = bytes-leave q (b .bytes) (b .memory) ts h z
 
-  plain-leaves : plainly (b .tallies) (plain exit) ≡ made (found n 0 0 []) 0 (b .bytes) (b .memory) (b .tallies)
+  plain-leaves : plainly (b .tallies) (plain exit) ≡ made (found n 0 0 []) (b .bytes) (b .memory) (b .tallies)
   plain-leaves = ap (λ (x : AtExit). plainly (b .tallies) (plain x)) leaves
 
-  value-leaves : (p : ℕ) → valued (b .tallies) (valueAt p exit) ≡ made (found n p 0 []) 0 (b .bytes) (b .memory) (b .tallies)
-  value-leaves p = ap (λ (x : AtExit). valued (b .tallies) (valueAt p x)) leaves ∙ ap (λ (v : ℕ). made (found n v 0 []) 0 (b .bytes) (b .memory) (b .tallies)) (kept n 0 p z)
+  value-leaves : (p : ℕ) → valued (b .tallies) (valueAt p exit) ≡ made (found n p 0 []) (b .bytes) (b .memory) (b .tallies)
+  value-leaves p = ap (λ (x : AtExit). valued (b .tallies) (valueAt p x)) leaves ∙ ap (λ (v : ℕ). made (found n v 0 []) (b .bytes) (b .memory) (b .tallies)) (kept n 0 p z)
 
-  flag-leaves : (p : ℕ) → flagged (b .tallies) (flagAt p exit) ≡ made (found n 0 0 []) p (b .bytes) (b .memory) (b .tallies)
-  flag-leaves p = ap (λ (x : AtExit). flagged (b .tallies) (flagAt p x)) leaves ∙ ap (λ (v : ℕ). made (found n 0 0 []) v (b .bytes) (b .memory) (b .tallies)) (kept n 0 p z)
+  flag-leaves : (p : ℕ) → flagged (b .tallies) (flagAt p exit) ≡ made (foundFlag n p) (b .bytes) (b .memory) (b .tallies)
+  flag-leaves p = ap (λ (x : AtExit). flagged (b .tallies) (flagAt p x)) leaves ∙ ap (λ (v : ℕ). made (foundFlag n v) (b .bytes) (b .memory) (b .tallies)) (kept n 0 p z)
 
-  state-leaves : (p : List ℕ) → stated (b .tallies) (stateAt p exit) ≡ made (found n 0 0 p) 0 (b .bytes) (b .memory) (b .tallies)
-  state-leaves p = ap (λ (x : AtExit). stated (b .tallies) (stateAt p x)) leaves ∙ ap (λ (v : List ℕ). made (found n 0 0 v) 0 (b .bytes) (b .memory) (b .tallies)) (kept n [] p z)
+  state-leaves : (p : List ℕ) → stated (b .tallies) (stateAt p exit) ≡ made (foundState n p) (b .bytes) (b .memory) (b .tallies)
+  state-leaves p = ap (λ (x : AtExit). stated (b .tallies) (stateAt p x)) leaves ∙ ap (λ (v : List ℕ). made (foundState n v) (b .bytes) (b .memory) (b .tallies)) (kept n [] p z)
 
-  file-leaves : (p : ℕ) → filed (b .tallies) (exportAt p exit) ≡ made (found n p 0 d) 0 (b .bytes) (b .memory) (b .tallies)
-  file-leaves p = ap (λ (x : AtExit). filed (b .tallies) (exportAt p x)) leaves ∙ ap (λ (v : ℕ). made (found n v 0 d) 0 (b .bytes) (b .memory) (b .tallies)) (kept n 0 p z)
+  file-leaves : (p : ℕ) → filed (b .tallies) (exportAt p exit) ≡ made (found n p 0 d) (b .bytes) (b .memory) (b .tallies)
+  file-leaves p = ap (λ (x : AtExit). filed (b .tallies) (exportAt p x)) leaves ∙ ap (λ (v : ℕ). made (found n v 0 d) (b .bytes) (b .memory) (b .tallies)) (kept n 0 p z)
 
-  store-leaves : (p : ℕ) → stored (changedAt p exit) ≡ made (found n 0 p []) 0 (b .bytes) (b .memory) ts
-  store-leaves p = ap (λ (x : AtExit). stored (changedAt p x)) leaves ∙ ap (λ (v : ℕ). made (found n 0 v []) 0 (b .bytes) (b .memory) ts) (kept n 0 p z)
+  store-leaves : (p : ℕ) → stored (changedAt p exit) ≡ made (found n 0 p []) (b .bytes) (b .memory) ts
+  store-leaves p = ap (λ (x : AtExit). stored (changedAt p x)) leaves ∙ ap (λ (v : ℕ). made (found n 0 v []) (b .bytes) (b .memory) ts) (kept n 0 p z)
 
-  import-leaves : (k p : ℕ) → imported (importAt k p exit) ≡ made (found n k p []) 0 (b .bytes) (b .memory) ts
+  import-leaves : (k p : ℕ) → imported (importAt k p exit) ≡ made (found n k p []) (b .bytes) (b .memory) ts
   import-leaves k p =
       ap (λ (x : AtExit). imported (importAt k p x)) leaves
-      ∙ ap₂ (λ (v w : ℕ). made (found n v w []) 0 (b .bytes) (b .memory) ts) (kept n 0 k z) (kept n 0 p z)
+      ∙ ap₂ (λ (v w : ℕ). made (found n v w []) (b .bytes) (b .memory) ts) (kept n 0 k z) (kept n 0 p z)
 
 calls-leave : (c : ExportedCall) (b : Bytes) → areBytes (b .bytes) ≡ true → make c b .found .answer ≢ 0 → make c b ≡ unchanged c (make c b .found .answer) b
 unfolding make

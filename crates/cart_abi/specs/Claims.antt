@@ -16,20 +16,20 @@ use Rattle.c_record.specs.Calls.{opens, restores}
 use Rattle.c_matcher_calls.specs.Calls.{searches, feeds}
 use Rattle.cart_abi.specs.Host.{ExportedCall, saveRead, saveWrite, eepromBeginDma, eepromWrite, eepromRead}
 use Rattle.cart_abi.specs.Host.{loadSave, saveData, chipState, takeSaveDirty, importSave}
-use Rattle.cart_abi.specs.Host.{Bytes, Made, found, made, make}
+use Rattle.cart_abi.specs.Host.{Bytes, Made, found, foundState, foundFlag, made, make}
 
 -- a call that returns n and leaves record, memory, tallies, destination, state and out-parameters as they were passed
 abbrev pub unchanged : ExportedCall → ℕ → Bytes → Made
-unchanged (saveRead a p) n b = made (found n p 0 []) 0 (b .bytes) (b .memory) (b .tallies)
-unchanged (saveWrite a v p) n b = made (found n 0 p []) 0 (b .bytes) (b .memory) (b .tallies)
-unchanged (eepromBeginDma words) n b = made (found n 0 0 []) 0 (b .bytes) (b .memory) (b .tallies)
-unchanged (eepromWrite v p) n b = made (found n 0 p []) 0 (b .bytes) (b .memory) (b .tallies)
-unchanged (eepromRead p) n b = made (found n p 0 []) 0 (b .bytes) (b .memory) (b .tallies)
-unchanged (loadSave f p) n b = made (found n 0 p []) 0 (b .bytes) (b .memory) (b .tallies)
-unchanged (saveData d p) n b = made (found n p 0 d) 0 (b .bytes) (b .memory) (b .tallies)
-unchanged (chipState p) n b = made (found n 0 0 p) 0 (b .bytes) (b .memory) (b .tallies)
-unchanged (takeSaveDirty p) n b = made (found n 0 0 []) p (b .bytes) (b .memory) (b .tallies)
-unchanged (importSave f k p) n b = made (found n k p []) 0 (b .bytes) (b .memory) (b .tallies)
+unchanged (saveRead a p) n b = made (found n p 0 []) (b .bytes) (b .memory) (b .tallies)
+unchanged (saveWrite a v p) n b = made (found n 0 p []) (b .bytes) (b .memory) (b .tallies)
+unchanged (eepromBeginDma words) n b = made (found n 0 0 []) (b .bytes) (b .memory) (b .tallies)
+unchanged (eepromWrite v p) n b = made (found n 0 p []) (b .bytes) (b .memory) (b .tallies)
+unchanged (eepromRead p) n b = made (found n p 0 []) (b .bytes) (b .memory) (b .tallies)
+unchanged (loadSave f p) n b = made (found n 0 p []) (b .bytes) (b .memory) (b .tallies)
+unchanged (saveData d p) n b = made (found n p 0 d) (b .bytes) (b .memory) (b .tallies)
+unchanged (chipState p) n b = made (foundState n p) (b .bytes) (b .memory) (b .tallies)
+unchanged (takeSaveDirty p) n b = made (foundFlag n p) (b .bytes) (b .memory) (b .tallies)
+unchanged (importSave f k p) n b = made (found n k p []) (b .bytes) (b .memory) (b .tallies)
 
 -- "opening, given none, returns one of kind None with all else 0"
 abbrev pub noRecord : List ℕ

@@ -26,51 +26,61 @@ pub record Bytes : Type 0 where
   pub tallies : List ℕ
 
 -- what a host finds after a call: the number returned, and what is then in the out-parameter for a value, in that for
--- the number of places changed, and in the destination or the state; 0 and [] where the call has none
+-- the number of places changed, in the destination, in the state and in the out-parameter of `take_save_dirty`; 0 and []
+-- where the call has none
 pub record Found : Type 0 where
   pub answer : ℕ
   pub place : ℕ
   pub changed : ℕ
   pub destination : List ℕ
+  pub state : List ℕ
+  pub flag : ℕ
 
 abbrev pub found : ℕ → ℕ → ℕ → List ℕ → Found
-found answer place changed d = record { answer = answer; place = place; changed = changed; destination = d }
+found answer place changed d =
+    record { answer = answer; place = place; changed = changed; destination = d; state = []; flag = 0 }
 
--- the out-parameter of `take_save_dirty` has a field of its own, which is left out of what is compared
+abbrev pub foundState : ℕ → List ℕ → Found
+foundState answer state =
+    record { answer = answer; place = 0; changed = 0; destination = []; state = state; flag = 0 }
+
+abbrev pub foundFlag : ℕ → ℕ → Found
+foundFlag answer flag =
+    record { answer = answer; place = 0; changed = 0; destination = []; state = []; flag = flag }
+
 pub record Made : Type 0 where
   pub found : Found
-  pub flag : ℕ
   pub next : Bytes
 
-abbrev pub made : Found → ℕ → List ℕ → List ℕ → List ℕ → Made
-made f flag r m ts = record { found = f; flag = flag; next = record { bytes = r; memory = m; tallies = ts } }
+abbrev pub made : Found → List ℕ → List ℕ → List ℕ → Made
+made f r m ts = record { found = f; next = record { bytes = r; memory = m; tallies = ts } }
 
 -- from a contract, of a call that is passed no tallies, so that the host's stay: without an out-parameter; with one for
 -- a value; of export, `chip_state` and `take_save_dirty`
 abbrev pub plainly : List ℕ → ℕ × List ℕ × List ℕ → Made
-plainly ts x = made (found (x .0) 0 0 []) 0 (x .1) (x .2) ts
+plainly ts x = made (found (x .0) 0 0 []) (x .1) (x .2) ts
 
 abbrev pub valued : List ℕ → ℕ × List ℕ × List ℕ × ℕ → Made
-valued ts x = made (found (x .0) (x .3) 0 []) 0 (x .1) (x .2) ts
+valued ts x = made (found (x .0) (x .3) 0 []) (x .1) (x .2) ts
 
 abbrev pub filed : List ℕ → ℕ × List ℕ × List ℕ × List ℕ × ℕ → Made
-filed ts x = made (found (x .0) (x .4) 0 (x .3)) 0 (x .1) (x .2) ts
+filed ts x = made (found (x .0) (x .4) 0 (x .3)) (x .1) (x .2) ts
 
 abbrev pub stated : List ℕ → ℕ × List ℕ × List ℕ × List ℕ → Made
-stated ts x = made (found (x .0) 0 0 (x .3)) 0 (x .1) (x .2) ts
+stated ts x = made (foundState (x .0) (x .3)) (x .1) (x .2) ts
 
 abbrev pub flagged : List ℕ → ℕ × List ℕ × List ℕ × ℕ → Made
-flagged ts x = made (found (x .0) 0 0 []) (x .3) (x .1) (x .2) ts
+flagged ts x = made (foundFlag (x .0) (x .3)) (x .1) (x .2) ts
 
 -- and of one that is: with an out-parameter for the places changed; of import; of opening
 abbrev pub stored : ℕ × List ℕ × List ℕ × List ℕ × ℕ → Made
-stored x = made (found (x .0) 0 (x .4) []) 0 (x .1) (x .2) (x .3)
+stored x = made (found (x .0) 0 (x .4) []) (x .1) (x .2) (x .3)
 
 abbrev pub imported : ℕ × List ℕ × List ℕ × List ℕ × ℕ × ℕ → Made
-imported x = made (found (x .0) (x .4) (x .5) []) 0 (x .1) (x .2) (x .3)
+imported x = made (found (x .0) (x .4) (x .5) []) (x .1) (x .2) (x .3)
 
 abbrev pub opened : ℕ × List ℕ × List ℕ × List ℕ → Made
-opened x = made (found (x .0) 0 0 []) 0 (x .1) (x .2) (x .3)
+opened x = made (found (x .0) 0 0 []) (x .1) (x .2) (x .3)
 
 unfoldable pub make : ExportedCall → Bytes → Made
 make (saveRead a p) b = valued (b .tallies) (reads a (b .bytes) (b .memory) p)
