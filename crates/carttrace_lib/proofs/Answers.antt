@@ -12,6 +12,7 @@ use Rattle.lists.proofs.Bools.{cases}
 use Rattle.hex.specs.Hex.{hex}
 use Rattle.cart.specs.declared.Cartridge.{Cartridge}
 use Rattle.cart.specs.ChipState.{chipBytes}
+use Rattle.cart.specs.States.{stateBytes, eighteenOf}
 use Rattle.cart.specs.Record.{State, Outcome, guarded, outcome, counted}
 use Rattle.cart.specs.Calls.{Call, questions, accepted, step, saveRead, saveWrite, eepromBeginDma, eepromWrite, eepromRead, chipState}
 use Rattle.cart.specs.Replies.{state, tallied, replyOf}
@@ -37,7 +38,7 @@ status-line qs d s t = cases (eqb (asked qs) 0) (λ e. rw e) (λ e. rw e)
 value-line : (qs : List Question) (d : List ℕ) (s t : State) (v : ℕ) → let o = guarded qs d s (counted s (outcome (v ∷ []) t d)) in valueLine (replyOf o) ≡ lineOf (o .refusal) (o .given)
 value-line qs d s t v = cases (eqb (asked qs) 0) (λ e. rw e) (λ e. rw (e, e))
 
-state-line : (qs : List Question) (d : List ℕ) (s t : State) (b : ℕ) (bs : List ℕ) → let o = guarded qs d s (counted s (outcome (b ∷ bs) t d)) in stateLine (stateAnswer (o .refusal) (orZeros (o .given))) ≡ lineOf (o .refusal) (o .given)
+state-line : (qs : List Question) (d : List ℕ) (s t : State) (b : ℕ) (bs : List ℕ) → let o = guarded qs d s (counted s (outcome (b ∷ bs) t d)) in stateLine (stateAnswer (o .refusal) (orZeros (o .given))) ≡ lineOf (o .refusal) (eighteenOf (o .given))
 state-line qs d s t b bs = cases (eqb (asked qs) 0) (λ e. rw e) (λ e. rw (e, e))
 
 pub read-line : (a : ℕ) (s : State) → let o = step (saveRead a) [] s in valueLine (replyOf o) ≡ lineOf (o .refusal) (o .given)
@@ -60,8 +61,8 @@ pub bit-out-line : (s : State) → let o = step eepromRead [] s in valueLine (re
 unfolding step accepted
 bit-out-line s = value-line (questions eepromRead [] s) [] s _ _
 
-pub record-line : (s : State) → let o = step chipState [] s in stateLine (stateAnswer (o .refusal) (orZeros (o .given))) ≡ lineOf (o .refusal) (o .given)
-unfolding step accepted chipBytes
+pub record-line : (s : State) → let o = step chipState [] s in stateLine (stateAnswer (o .refusal) (orZeros (o .given))) ≡ lineOf (o .refusal) (eighteenOf (o .given))
+unfolding step accepted stateBytes chipBytes
 record-line s = state-line (questions chipState [] s) [] s s _ _
 
 -- a call that is not passed the tallies, as if it were

@@ -8,6 +8,7 @@ use Rattle.part.specs.Part.{partFits}
 use Rattle.flash.specs.Flash.{stateAllowed}
 use Rattle.eeprom.specs.Eeprom.{widthAllowed, w, tells6, tells14, beginDma, dmaQuestion, readBit, afterRead}
 use Rattle.cart.specs.ChipState.{phaseOf, chipBytes, fieldQuestions}
+use Rattle.cart.specs.States.{stateBytes}
 use Rattle.cart.specs.Record.{recordAllowed, freshCart}
 use Rattle.cart.specs.Calls.{readSave, questions, accepted, step}
 use Rattle.byte_step.specs.ByteStep.{readByte}
@@ -24,5 +25,5 @@ record Runs : Type 0 where
   bad : carttrace (ascii "00\n\n3\n03 \n0a\n08\n0100000000\n040000\n") ≡ ascii "00\nFF\nFF\nFF\nFF\nFF\n00FF\n04\n"
 
 runs : Runs
-unfolding lowFirst erased imageLength stateAllowed widthAllowed w tells6 tells14 beginDma dmaQuestion readBit afterRead phaseOf chipBytes fieldQuestions partFits recordAllowed freshCart readByte readSave questions accepted step character valueOf numberFrom hex frameOf frame freshOf firstLine lineOf freshKind play playAll playLines linesFrom carttrace
+unfolding lowFirst erased imageLength stateAllowed widthAllowed w tells6 tells14 beginDma dmaQuestion readBit afterRead phaseOf chipBytes fieldQuestions stateBytes partFits recordAllowed freshCart readByte readSave questions accepted step character valueOf numberFrom hex frameOf frame freshOf firstLine lineOf freshKind play playAll playLines linesFrom carttrace
 runs = record { whole = refl; unended = refl; nothing = refl; empty = refl; noKind = refl; bad = refl }

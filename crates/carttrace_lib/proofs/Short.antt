@@ -3,11 +3,10 @@ use mathlib.Core.List.{List, []}
 use Prim.Native.Nat.{ℕ, _≤_}
 use native.Mathlib.Omega.{arith}
 use lib.Dec.{eqb}
-use lib.ListN.{length}
-use Rattle.lists.specs.Lists.{lowFirst}
+use lib.ListN.{length, length-take}
 use Rattle.lists.specs.Questions.{asked}
 use Rattle.lists.proofs.Bools.{either}
-use Rattle.cart.specs.ChipState.{chipBytes}
+use Rattle.cart.specs.ChipState.{chipRecordSize}
 use Rattle.cart.specs.Record.{State, Outcome}
 use Rattle.cart.specs.Calls.{Call, questions, accepted, step, saveRead, saveWrite, eepromBeginDma, eepromWrite, eepromRead, chipState, takeSaveDirty}
 use Rattle.frames.specs.declared.Frame.{Frame}
@@ -33,7 +32,7 @@ step-short : (c : Call) (s : State) → length (accepted c [] s .given) ≤ 18 �
 step-short c s h = line-short (step c [] s .refusal) (step c [] s .given) (given-short c s h)
 
 play-short : (f : Frame) (s : State) → length (play f s .text) ≤ 39
-unfolding play accepted chipBytes lowFirst
+unfolding play accepted
 play-short (SaveRead a) s = step-short (saveRead a) s (omega arith)
 play-short (SaveWrite a v) s = step-short (saveWrite a v) s (omega arith)
 play-short EepromRead s = step-short eepromRead s (omega arith)
@@ -42,7 +41,9 @@ play-short (BeginDma words) s = step-short (eepromBeginDma words) s (omega arith
 play-short TakeFlag s =
     let o = step takeSaveDirty [] s in
     line-short (o .refusal) _ (either (λ (l : List ℕ). length l ≤ 18) (eqb (o .refusal) 0) (omega arith) (omega arith))
-play-short ChipState s = step-short chipState s (omega arith)
+play-short ChipState s =
+    let o = step chipState [] s in
+    line-short (o .refusal) _ (omega (arith, length-take chipRecordSize (o .given)))
 play-short Bad s = line-short _ [] (omega arith)
 
 begun-short : (f : FirstLine) (s : Session) (m : Buffers) → length (begun f s m .text) ≤ 39

@@ -11,7 +11,8 @@ use Rattle.kind.specs.Kind.{memorySize, tallyCount}
 use Rattle.part.specs.declared.Part.the-variants.{Usual}
 use Rattle.cart.specs.declared.Cartridge.{Cartridge}
 use Rattle.cart.specs.declared.Reply.{Reply}
-use Rattle.cart.specs.ChipState.{stateSize}
+use Rattle.cart.specs.ChipState.{chipRecordSize}
+use Rattle.cart.specs.States.{eighteenOf}
 use Rattle.cart.specs.Record.{State, Outcome, freshCart}
 use Rattle.cart.specs.Calls.{saveRead, saveWrite, eepromBeginDma, eepromWrite, eepromRead}
 use Rattle.cart.specs.Calls.{chipState, takeSaveDirty, step}
@@ -38,6 +39,10 @@ abbrev pub flagPrinted : Outcome → Printed
 flagPrinted o =
     record { text = lineOf (o .refusal) (cond (eqb (o .refusal) 0) (bit (o .flag) ∷ []) []); next = o .next }
 
+-- 02, ticket 5: "The first eighteen bytes are .. all that `carttrace` prints."
+abbrev pub statePrinted : Outcome → Printed
+statePrinted o = record { text = lineOf (o .refusal) (eighteenOf (o .given)); next = o .next }
+
 -- "01 .. byte read; 02 .. write; 03 serial read; 04 .. serial write; 05 .. DMA; 06 take flag; 07 chip record"; "FF for
 -- a bad line"
 unfoldable pub play : Frame → State → Printed
@@ -47,7 +52,7 @@ play EepromRead s = printed (step eepromRead [] s)
 play (EepromWrite v) s = printed (step (eepromWrite v) [] s)
 play (BeginDma words) s = printed (step (eepromBeginDma words) [] s)
 play TakeFlag s = flagPrinted (step takeSaveDirty [] s)
-play ChipState s = printed (step chipState [] s)
+play ChipState s = statePrinted (step chipState [] s)
 play Bad s = record { text = lineOf 0xff []; next = s }
 
 unfoldable pub playAll : List (List ℕ) → State → List ℕ
@@ -80,7 +85,7 @@ linesFrom line (c ∷ text) = cond (eqb c 0x0a) (line ∷ linesFrom [] text) (li
 unfoldable pub carttrace : List ℕ → List ℕ
 carttrace input = playLines (linesFrom [] input)
 
--- what a call returned, as a line: its status alone, with its number, with the chip state
+-- what a call returned, as a line: its status alone, with its number, with the chip record
 abbrev pub statusLine : Reply → List ℕ
 statusLine r = lineOf (r .refusal) []
 
@@ -88,11 +93,11 @@ abbrev pub valueLine : Reply → List ℕ
 valueLine r = lineOf (r .refusal) (cond (eqb (r .refusal) 0) (r .value ∷ []) [])
 
 abbrev pub stateLine : StateAnswer → List ℕ
-stateLine a = lineOf (a .refusal) (cond (eqb (a .refusal) 0) (a .bytes) [])
+stateLine a = lineOf (a .refusal) (cond (eqb (a .refusal) 0) (eighteenOf (a .bytes)) [])
 
--- no line is longer: a status, the chip state, a line feed
+-- no line is longer: a status, the chip record, a line feed
 abbrev pub longestLine : ℕ
-longestLine = 2 + 2 * stateSize + 1
+longestLine = 2 + 2 * chipRecordSize + 1
 
 -- a text at the front of the output, and its length; with the record; and what a frame leaves
 abbrev pub written : List ℕ → List ℕ → ℕ × List ℕ

@@ -1,6 +1,7 @@
 // A frame, played as its call, and the answer as a line.
 
 use crate::Played;
+use cart::CHIP_SIZE;
 use cart::Cartridge;
 use cart::Reply;
 use frames::Frame;
@@ -9,7 +10,7 @@ ghost use mathlib.Core.Path.{_≡_};
 ghost use mathlib.Core.List.{[]};
 ghost use Prim.Native.Nat.{_≤_};
 ghost use lib.ListN.{length};
-ghost use Rattle.cart.specs.ChipState.{stateSize};
+ghost use Rattle.cart.specs.States.{stateSize};
 ghost use Rattle.cart.specs.Replies.{tallied};
 ghost use Rattle.frames.specs.Frames.{lineOf};
 ghost use Rattle.carttrace_lib.specs.Trace.{longestLine, play as play·spec, statusLine, valueLine, stateLine};
@@ -35,6 +36,7 @@ fn print_value(out: &mut [u8], reply: Reply) -> usize
     frames::print_line(out, 0, &one)
 }
 
+// 00 and the chip record, the first bytes of a state, or the refusal.
 fn print_state(out: &mut [u8], state: StateAnswer) -> usize
     requires { ⌜ longestLine ≤ length (now out) ⌝ }
     requires { ⌜ length (state .bytes) ≡ stateSize ⌝ }
@@ -44,7 +46,7 @@ fn print_state(out: &mut [u8], state: StateAnswer) -> usize
         return print_status(out, state.refusal);
     }
     let bytes = state.bytes;
-    frames::print_line(out, 0, &bytes)
+    frames::print_line(out, 0, &bytes[..CHIP_SIZE])
 }
 
 fn played_with(cart: Cartridge, len: usize) -> Played

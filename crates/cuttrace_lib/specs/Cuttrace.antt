@@ -1,4 +1,4 @@
--- What the program `cuttrace` prints: a line for each line but a cut's, then the file and the chip state.
+-- What the program `cuttrace` prints: a line for each line but a cut's, then the file and the chip record.
 use mathlib.Core.Bool.{Bool, cond, _||_}
 use mathlib.Core.List.{List, [], _∷_, _++_}
 use Prim.Native.Nat.{ℕ, _%_}

@@ -6,10 +6,12 @@ use Prim.Native.Nat.{ℕ, _+_}
 use lib.Dec.{eqb}
 use lib.ListN.{length, getD, take, drop}
 use Rattle.lists.specs.Lists.{into}
-use Rattle.cart.specs.ChipState.{stateSize}
+use Rattle.cart.specs.ChipState.{chipRecordSize}
 use Rattle.frames.specs.Frames.{lineOf}
 use Rattle.call_list.specs.declared.Item.{Item}
-use Rattle.call_list.specs.Items.{high32, itemRoom, isItem}
+use Rattle.call_list.specs.declared.Item.the-variants.{SaveRead, SaveWrite, EepromRead, EepromWrite, BeginDma}
+use Rattle.call_list.specs.declared.Item.the-variants.{TakeFlag, ChipState, LoadSave, SaveData, Cut, Bad}
+use Rattle.call_list.specs.Items.{high32, itemRoom}
 use Rattle.cuttrace_lib.specs.Lines.{lineItem}
 
 -- a text at the front of the output, and its length
@@ -21,16 +23,32 @@ unfoldable pub answerText : List ℕ → List ℕ
 answerText [] = []
 answerText (status ∷ bytes) = lineOf status (cond (eqb status 0) bytes [])
 
+-- of a state the status and the chip record, as carttrace does; 02, ticket 5: "The first eighteen bytes are .. all that
+-- `carttrace` prints."
+abbrev pub stateText : List ℕ → List ℕ
+stateText answer = answerText (take (1 + chipRecordSize) answer)
+
+-- "FF for a bad line"
 unfoldable pub itemText : Item → List ℕ → List ℕ
-itemText i answer = cond (isItem i) (answerText answer) (lineOf 0xff [])
+itemText (SaveRead a) answer = answerText answer
+itemText (SaveWrite a v) answer = answerText answer
+itemText EepromRead answer = answerText answer
+itemText (EepromWrite v) answer = answerText answer
+itemText (BeginDma words) answer = answerText answer
+itemText TakeFlag answer = answerText answer
+itemText ChipState answer = stateText answer
+itemText (LoadSave n) answer = answerText answer
+itemText (SaveData n) answer = answerText answer
+itemText Cut answer = answerText answer
+itemText Bad answer = lineOf 0xff []
 
 -- a file after its status and its length: as many bytes as the length says
 unfoldable pub fileText : List ℕ → List ℕ
 fileText a = lineOf (getD a 0 0) (cond (eqb (getD a 0 0) 0) (take (high32 a) (drop 5 a)) [])
 
--- the file and the chip state, for a memory of m bytes
+-- the file and the chip record, for a memory of m bytes
 unfoldable pub endingText : ℕ → List ℕ → List ℕ
-endingText m a = fileText (take (5 + m) a) ++ answerText (take (1 + stateSize) (drop (5 + m) a))
+endingText m a = fileText (take (5 + m) a) ++ stateText (drop (5 + m) a)
 
 -- the answers to the lines, one after the other, and then the ending
 unfoldable pub linesText : ℕ → List (List ℕ) → List ℕ → List ℕ

@@ -2,14 +2,16 @@
 use crate::lines::line_length;
 use crate::lines::read_line;
 use call_list::Item;
+use cart::CHIP_SIZE;
 ghost use mathlib.Core.Path.{_≡_};
 ghost use mathlib.Core.List.{[]};
 ghost use Prim.Native.Nat.{_+_, _*_, _≤_, min};
 ghost use lib.ListN.{length};
 ghost use Rattle.carttrace_lib.specs.Trace.{linesFrom};
-ghost use Rattle.call_list.specs.Items.{endingRoom};
-ghost use Rattle.cuttrace_lib.specs.Printing.{Shows, answerText, itemText, fileText, endingText};
-ghost use Rattle.cuttrace_lib.specs.Printing.{linesText, linesRoom};
+ghost use Rattle.cart.specs.States.{stateSize};
+ghost use Rattle.call_list.specs.Items.{itemRoom, endingRoom};
+ghost use Rattle.cuttrace_lib.specs.Printing.{Shows, answerText, stateText, itemText, fileText};
+ghost use Rattle.cuttrace_lib.specs.Printing.{endingText, linesText, linesRoom};
 ghost use Rattle.cuttrace_lib.specs.Cuttrace.{longestTrace};
 
 // A refusal's number alone, or 00 and the bytes after the status.
@@ -26,15 +28,26 @@ fn print_answer(answer: &[u8], out: &mut [u8]) -> usize
     frames::print_line(out, 0, &answer[1..])
 }
 
+// The status and the chip record, which a state begins with.
+fn print_state(answer: &[u8], out: &mut [u8]) -> usize
+    requires { ⌜ length (now answer) ≡ 1 + stateSize ⌝ }
+    requires { ⌜ 2 * length (now answer) + 3 ≤ length (now out) ⌝ }
+    ensures { λ r. ⌜ Shows (stateText (now (answer .entry))) r (now (out .exit)) (now (out .entry)) ⌝ }
+{
+    print_answer(&answer[..1 + CHIP_SIZE], out)
+}
+
 // FF for a bad line, nothing for a cut.
 fn print_item(item: Item, answer: &[u8], out: &mut [u8]) -> usize
+    requires { ⌜ length (now answer) ≡ itemRoom item ⌝ }
     requires { ⌜ 2 * length (now answer) + 3 ≤ length (now out) ⌝ }
     ensures { λ r. ⌜ Shows (itemText item (now (answer .entry))) r (now (out .exit)) (now (out .entry)) ⌝ }
 {
-    if let Item::Bad = item {
-        return frames::print_line(out, 0xFF, b"");
+    match item {
+        Item::Bad => frames::print_line(out, 0xFF, b""),
+        Item::ChipState => print_state(answer, out),
+        _ => print_answer(answer, out),
     }
-    print_answer(answer, out)
 }
 
 fn least(a: usize, b: usize) -> usize
@@ -60,7 +73,7 @@ fn print_file(answer: &[u8], out: &mut [u8]) -> usize
     frames::print_line(out, 0, &answer[5..end])
 }
 
-// After the last item's answer: the file and the chip state.
+// After the last item's answer: the file and the chip record.
 fn print_ending(memory: usize, ending: &[u8], out: &mut [u8]) -> usize
     requires { ⌜ length (now ending) ≡ endingRoom memory ⌝ }
     requires { ⌜ 2 * length (now ending) + 6 ≤ length (now out) ⌝ }
@@ -68,7 +81,7 @@ fn print_ending(memory: usize, ending: &[u8], out: &mut [u8]) -> usize
 {
     let middle = 5 + memory;
     let n = print_file(&ending[..middle], out);
-    n + print_answer(&ending[middle..], &mut out[n..])
+    n + print_state(&ending[middle..], &mut out[n..])
 }
 
 // The answers to the lines of a text, and the ending for a memory of so many bytes. The room holds a line's bytes.

@@ -13,9 +13,9 @@ use crate::rooms::at_most;
 use crate::rooms::at_most_tallies;
 use crate::rooms::file_room;
 use crate::rooms::line_room;
+use cart::CHIP_SIZE;
 use cart::Cartridge;
 use cart::Reply;
-use cart::STATE_SIZE;
 use carttrace_lib::Played;
 use frames::Frame;
 use frames::Line;
@@ -149,7 +149,7 @@ fn export(cart: Cartridge, memory: &[u8], out: &mut [u8]) -> Played
     played(cart, frames::print_line(out, 0, &answer))
 }
 
-// 0A chip state (36).
+// 0A chip record (36).
 fn restore(s: &[u8], cart: Cartridge, out: &mut [u8]) -> Played
     requires { ⌜ 256 ≤ length (now out) ⌝ }
 {
@@ -206,7 +206,7 @@ fn frame_length(number: u8) -> usize {
     match number {
         0x08 => 5,
         0x09 => 1,
-        0x0A => 1 + STATE_SIZE,
+        0x0A => 1 + CHIP_SIZE,
         0x0C => 6,
         0x0D => 2,
         _ => 0,

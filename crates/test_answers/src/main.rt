@@ -1,6 +1,6 @@
 // Replays the list of the original's answers: makes each line's call, prints every line whose answer differs, and
-// counts. After each call it holds what the tallies answer against a full reading of the memory. `compare/README.md`
-// describes the frames.
+// counts. After each call it holds what the tallies answer against a full reading of the memory, and the last bytes of
+// the state against the record. `compare/README.md` describes the frames.
 
 mod calls;
 mod digits;
@@ -9,6 +9,7 @@ mod kinds;
 mod made;
 mod rooms;
 mod score;
+mod states;
 mod stretches;
 
 use bytes::scan::find;
@@ -105,6 +106,28 @@ fn tallies_held(
     held(score, b"tallies, ", frame, answer_in(&read, n), &told, len)
 }
 
+// The state after the call of a frame, past the 18 bytes.
+fn state_held(score: Score, frame: &[u8], cart: Cartridge) -> Score {
+    let mut expected = rooms::line_room();
+    let mut told = rooms::line_room();
+    let n = states::by_record(cart, &mut expected);
+    let len = states::by_state(cart, &mut told);
+    held(
+        score,
+        b"state, ",
+        frame,
+        answer_in(&expected, n),
+        &told,
+        len,
+    )
+}
+
+// What the list does not have.
+fn more_held(score: Score, frame: &[u8], cart: Cartridge, memory: &[u8], tallies: &[u16]) -> Score {
+    let score = tallies_held(score, frame, cart, memory, tallies);
+    state_held(score, frame, cart)
+}
+
 // A line: frame, one space, answer.
 fn line(text: &[u8], replay: Replay, memory: &mut [u8], tallies: &mut [u16]) -> Replay {
     let cart = replay.cart;
@@ -116,7 +139,7 @@ fn line(text: &[u8], replay: Replay, memory: &mut [u8], tallies: &mut [u16]) -> 
     let next = p.cart;
     let score = score::counted(score, frame, p.len != 0);
     let score = held(score, b"", frame, after(text, space), &out, p.len);
-    let score = tallies_held(score, frame, next, memory, tallies);
+    let score = more_held(score, frame, next, memory, tallies);
     Replay {
         cart: next,
         score: score,

@@ -2,6 +2,7 @@ use mathlib.Core.Path.{refl, ap, sym, _∙_}
 use mathlib.Core.List.{[]}
 use lib.ListN.{length}
 use Rattle.lists.specs.Lists.{into}
+use Rattle.cart.specs.States.{eighteenOf}
 use Rattle.cart.specs.Calls.{saveRead, eepromRead, eepromBeginDma, takeSaveDirty, chipState, step}
 use Rattle.cart.specs.Replies.{state, tallied, replied, flagReplied}
 use Rattle.cart.proofs.Stretches.{stretches}
@@ -78,7 +79,7 @@ returns-7 c =
     let ts = a .tallies .now in
     let s = tallied (a .cart) m ts in
     let o = step chipState [] s in
-    let text = lineOf (o .refusal) (o .given) in
+    let text = lineOf (o .refusal) (eighteenOf (o .given)) in
     let e = c .before .before .before .before .chip-state .ensures m in
     let p = c .before .before .before .print-state .ensures in
     let k = c .played-with .ensures ∙ (λ i. playedWith (a .cart) (p i .0)) in

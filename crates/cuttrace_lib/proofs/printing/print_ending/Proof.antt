@@ -3,7 +3,7 @@ use Prim.Native.Nat.{_+_, _-_}
 use native.Mathlib.Omega.{arith}
 use lib.ListN.{length, take, drop}
 use lib.Seq.{length-take-le}
-use Rattle.cuttrace_lib.proofs.Answers.{file-fits, answer-short, ending-shown}
+use Rattle.cuttrace_lib.proofs.Answers.{file-fits, state-short, ending-shown}
 use Rattle.cuttrace_lib.proofs.Texts.{part-long}
 use borrow.Author.Needs.{needs}
 use Rattle.cuttrace_lib.proofs.printing.print_ending.Statement.{statement}
@@ -18,35 +18,43 @@ slice-aggregate-print-file c = sym (length-take-le (5 + c .before .before .befor
 print-file-requires : tie.Need-print-file-requires
 print-file-requires c κs = let l = length-take-le (5 + c .before .before .before .before .args .memory) (c .before .before .before .before .args .ending .now) (omega (arith, c .before .before .before .before .pre .0)) in (omega (arith, l), omega (arith, l, c .before .before .before .before .pre))
 
-sub-print-answer : tie.Need-sub-print-answer
-sub-print-answer c = search needs
+sub-print-state : tie.Need-sub-print-state
+sub-print-state c = search needs
 
-part-print-answer-start : tie.Need-part-print-answer-start
-part-print-answer-start c = search needs
+part-print-state-start : tie.Need-part-print-state-start
+part-print-state-start c = search needs
 
-part-print-answer-end : tie.Need-part-print-answer-end
-part-print-answer-end c = search needs
+part-print-state-end : tie.Need-part-print-state-end
+part-print-state-end c = search needs
 
-sub-print-answer-2 : tie.Need-sub-print-answer-2
-sub-print-answer-2 c = omega (arith, c .before .before .before .print-file .ensures .0, file-fits (c .before .before .before .before .before .before .before .before .args .memory) (c .before .before .before .before .before .before .before .before .args .ending .now) (c .before .before .before .before .before .before .before .before .pre .0), c .before .before .out .given, c .before .before .before .before .before .before .before .before .pre)
+sub-print-state-2 : tie.Need-sub-print-state-2
+sub-print-state-2 c = omega (arith, c .before .before .before .print-file .ensures .0, file-fits (c .before .before .before .before .before .before .before .before .args .memory) (c .before .before .before .before .before .before .before .before .args .ending .now) (c .before .before .before .before .before .before .before .before .pre .0), c .before .before .out .given, c .before .before .before .before .before .before .before .before .pre)
 
-part-print-answer-start-2 : tie.Need-part-print-answer-start-2
-part-print-answer-start-2 c = omega (arith, c .before .before .before .print-file .ensures .0, file-fits (c .before .before .before .before .before .before .before .before .args .memory) (c .before .before .before .before .before .before .before .before .args .ending .now) (c .before .before .before .before .before .before .before .before .pre .0), c .before .before .out .given, c .before .before .before .before .before .before .before .before .pre)
+part-print-state-start-2 : tie.Need-part-print-state-start-2
+part-print-state-start-2 c = omega (arith, c .before .before .before .print-file .ensures .0, file-fits (c .before .before .before .before .before .before .before .before .args .memory) (c .before .before .before .before .before .before .before .before .args .ending .now) (c .before .before .before .before .before .before .before .before .pre .0), c .before .before .out .given, c .before .before .before .before .before .before .before .before .pre)
 
-part-print-answer-end-2 : tie.Need-part-print-answer-end-2
-part-print-answer-end-2 c = search needs
+part-print-state-end-2 : tie.Need-part-print-state-end-2
+part-print-state-end-2 c = search needs
 
-print-answer-requires : tie.Need-print-answer-requires
-print-answer-requires c κs = omega (arith, part-long (c .before .before .before .before .before .before .before .before .before .args .ending .now) (5 + c .before .before .before .before .before .before .before .before .before .args .memory), part-long (c .before .before .before .before .print-file .last .1 .0) (c .before .before .before .before .print-file .result), c .before .before .before .before .print-file .ensures .0, file-fits (c .before .before .before .before .before .before .before .before .before .args .memory) (c .before .before .before .before .before .before .before .before .before .args .ending .now) (c .before .before .before .before .before .before .before .before .before .pre .0), c .before .before .before .out .given, c .before .before .before .before .before .before .before .before .before .pre)
+print-state-requires : tie.Need-print-state-requires
+print-state-requires c κs =
+    let s = c .before .before .before .before .before .before .before .before .before in
+    let a = s .args in
+    let f = c .before .before .before .before .print-file in
+    let l = part-long (a .ending .now) (5 + a .memory) in
+    (omega (arith, l, s .pre .0), omega (arith, l, part-long (f .last .1 .0) (f .result), f .ensures .0, file-fits (a .memory) (a .ending .now) (s .pre .0), c .before .before .before .out .given, s .pre))
 
 add-result : tie.Need-add-result
-add-result c = omega (arith, c .before .before .before .before .before .before .before .print-file .ensures .0, file-fits (c .before .before .before .before .before .before .before .before .before .before .before .before .args .memory) (c .before .before .before .before .before .before .before .before .before .before .before .before .args .ending .now) (c .before .before .before .before .before .before .before .before .before .before .before .before .pre .0), c .before .before .print-answer .ensures .0, answer-short (take (length (c .before .before .before .before .before .before .before .before .before .before .before .before .args .ending .now) - (5 + c .before .before .before .before .before .before .before .before .before .before .before .before .args .memory)) (drop (5 + c .before .before .before .before .before .before .before .before .before .before .before .before .args .memory) (c .before .before .before .before .before .before .before .before .before .before .before .before .args .ending .now))), part-long (c .before .before .before .before .before .before .before .before .before .before .before .before .args .ending .now) (5 + c .before .before .before .before .before .before .before .before .before .before .before .before .args .memory), c .before .before .before .before .before .before .before .before .before .before .before .before .pre, c .before .before .before .before .before .before .before .before .before .before .before .before .good)
+add-result c =
+    let s = c .before .before .before .before .before .before .before .before .before .before .before .before in
+    let a = s .args in
+    omega (arith, c .before .before .before .before .before .before .before .print-file .ensures .0, file-fits (a .memory) (a .ending .now) (s .pre .0), c .before .before .print-state .ensures .0, state-short (take (length (a .ending .now) - (5 + a .memory)) (drop (5 + a .memory) (a .ending .now))), s .pre, s .good)
 
 same-length : tie.Need-same-length
 same-length c = search needs
 
 returns : tie.Need-returns
-returns c = ending-shown (c .before .before .before .before .before .before .before .before .before .before .before .before .args .memory) (c .before .before .before .before .before .before .before .before .before .before .before .before .args .ending .now) (c .before .before .before .before .before .before .before .before .before .before .before .before .args .out .now) (c .before .before .before .before .before .before .before .print-file .last .1 .0) (c .before .before .print-answer .last .1 .0) (c .before .before .before .before .before .before .before .print-file .result) (c .before .before .print-answer .result) (c .before .before .before .before .before .before .before .before .before .before .before .before .pre .0) (omega (arith, c .before .before .before .before .before .before .before .print-file .ensures .0, file-fits (c .before .before .before .before .before .before .before .before .before .before .before .before .args .memory) (c .before .before .before .before .before .before .before .before .before .before .before .before .args .ending .now) (c .before .before .before .before .before .before .before .before .before .before .before .before .pre .0), c .before .before .before .before .before .before .before .before .before .before .before .before .pre)) (c .before .before .before .before .before .before .before .print-file .ensures) (c .before .before .print-answer .ensures)
+returns c = ending-shown (c .before .before .before .before .before .before .before .before .before .before .before .before .args .memory) (c .before .before .before .before .before .before .before .before .before .before .before .before .args .ending .now) (c .before .before .before .before .before .before .before .before .before .before .before .before .args .out .now) (c .before .before .before .before .before .before .before .print-file .last .1 .0) (c .before .before .print-state .last .1 .0) (c .before .before .before .before .before .before .before .print-file .result) (c .before .before .print-state .result) (c .before .before .before .before .before .before .before .before .before .before .before .before .pre .0) (omega (arith, c .before .before .before .before .before .before .before .print-file .ensures .0, file-fits (c .before .before .before .before .before .before .before .before .before .before .before .before .args .memory) (c .before .before .before .before .before .before .before .before .before .before .before .before .args .ending .now) (c .before .before .before .before .before .before .before .before .before .before .before .before .pre .0), c .before .before .before .before .before .before .before .before .before .before .before .before .pre)) (c .before .before .before .before .before .before .before .print-file .ensures) (c .before .before .print-state .ensures)
 
 pub print-ending-spec : {M : Type 1} → statement M
 print-ending-spec =
@@ -55,13 +63,13 @@ print-ending-spec =
     add-middle
     slice-aggregate-print-file
     print-file-requires
-    sub-print-answer
-    part-print-answer-start
-    part-print-answer-end
-    sub-print-answer-2
-    part-print-answer-start-2
-    part-print-answer-end-2
-    print-answer-requires
+    sub-print-state
+    part-print-state-start
+    part-print-state-end
+    sub-print-state-2
+    part-print-state-start-2
+    part-print-state-end-2
+    print-state-requires
     add-result
     same-length
     returns)

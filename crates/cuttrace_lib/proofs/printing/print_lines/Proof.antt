@@ -71,7 +71,13 @@ part-print-item-end-2 : tie.Need-part-print-item-end-2 Inv-loop μ-loop
 part-print-item-end-2 c = search needs
 
 print-item-requires : tie.Need-print-item-requires Inv-loop μ-loop
-print-item-requires c κs = let b = c .before .before .before .before .before .before .before .before .before .before .before .loop in let k = here-fits (c .before .before .before .before .before .before .before .before .line-length .result) (c .before .before .before .before .before .read-line .result) (b .inv) (omega (arith, c .before .before .before .before .before .before .before .before .before .before .loop-test)) (c .before .before .before .before .before .before .before .before .line-length .ensures .0) (c .before .before .before .before .before .read-line .ensures .0) in omega (arith, c .before .before .item-room .ensures, k, piece-length (b .at) (b .at + c .before .before .item-room .result) (c .before .before .item-room .result) (c .before .before .before .before .before .before .before .before .before .before .before .before .before .before .before .before .args .answers .now) refl (omega (arith, c .before .before .item-room .ensures, k)), part-long (b .out) (b .len), out-length (b .inv), b .inv .lenOk, b .inv .outOk, c .before .before .before .before .before .before .before .before .before .before .loop-test)
+print-item-requires c κs =
+    let b = c .before .before .before .before .before .before .before .before .before .before .before .loop in
+    let r = c .before .before .item-room in
+    let a = c .before .before .before .before .before .before .before .before .before .before .before .before .before .before .before .before .args in
+    let k = here-fits (c .before .before .before .before .before .before .before .before .line-length .result) (c .before .before .before .before .before .read-line .result) (b .inv) (omega (arith, c .before .before .before .before .before .before .before .before .before .before .loop-test)) (c .before .before .before .before .before .before .before .before .line-length .ensures .0) (c .before .before .before .before .before .read-line .ensures .0) in
+    let l = piece-length (b .at) (b .at + r .result) (r .result) (a .answers .now) refl (omega (arith, r .ensures, k)) ∙ r .ensures in
+    (l, omega (arith, l, k, part-long (b .out) (b .len), out-length (b .inv), b .inv .lenOk, b .inv .outOk, c .before .before .before .before .before .before .before .before .before .before .loop-test))
 
 add-len : tie.Need-add-len Inv-loop μ-loop
 add-len c = let b = c .before .before .before .before .before .before .before .before .before .before .before .before .before .before .loop in let k = here-fits (c .before .before .before .before .before .before .before .before .before .before .before .line-length .result) (c .before .before .before .before .before .before .before .before .read-line .result) (b .inv) (omega (arith, c .before .before .before .before .before .before .before .before .before .before .before .before .before .loop-test)) (c .before .before .before .before .before .before .before .before .before .before .before .line-length .ensures .0) (c .before .before .before .before .before .before .before .before .read-line .ensures .0) in let answer = take (b .at + c .before .before .before .before .before .item-room .result - b .at) (drop (b .at) (c .before .before .before .before .before .before .before .before .before .before .before .before .before .before .before .before .before .before .before .args .answers .now)) in omega (arith, c .before .before .before .before .before .item-room .ensures, k, piece-length (b .at) (b .at + c .before .before .before .before .before .item-room .result) (c .before .before .before .before .before .item-room .result) (c .before .before .before .before .before .before .before .before .before .before .before .before .before .before .before .before .before .before .before .args .answers .now) refl (omega (arith, c .before .before .before .before .before .item-room .ensures, k)), c .before .before .print-item .ensures .0, item-short (c .before .before .before .before .before .before .before .before .read-line .result) answer, b .inv .lenOk, b .inv .outOk, c .before .before .before .before .before .before .before .before .before .before .before .before .before .loop-test, c .before .before .before .before .before .before .before .before .before .before .before .before .before .before .before .before .before .before .before .good)
