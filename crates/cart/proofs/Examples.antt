@@ -19,8 +19,8 @@ use Rattle.file_sizes.specs.SaveFit.{chipSize, eepromFit, saveFit, keptPart}
 use Rattle.flash.specs.Flash.{stateAllowed}
 use Rattle.eeprom.specs.Eeprom.{widthAllowed, w, readBit, afterRead}
 use Rattle.byte_step.specs.ByteStep.{readByte, writeStep}
-use Rattle.cart.specs.ChipState.{phaseOf, chipBytes, chipOf, fieldQuestions}
-use Rattle.cart.specs.States.{stateBytes}
+use Rattle.chip_record.specs.ChipState.{phaseOf, chipBytes, chipOf, fieldQuestions}
+use Rattle.chip_record.specs.States.{stateBytes}
 use Rattle.cart.specs.Record.{State, refused, recordAllowed, freshCart, fresh, fromBytes}
 use Rattle.cart.specs.Calls.{saveRead, saveWrite, eepromWrite, eepromRead, loadSave, saveData, chipState, takeSaveDirty, chipWith, stateWith, readSave, writeSave, load, fileOf, questions, accepted, step, restore, importSave, usesEepromOf, eepromWindowStart, isBlank, inUse}
 use Rattle.cart.specs.Stretches.{withTallies}

@@ -11,9 +11,9 @@ use Rattle.lists.specs.Lists.{bit}
 use Rattle.lists.specs.Questions.{FirstNo}
 use Rattle.part.specs.declared.Part.{Part}
 use Rattle.part.specs.Part.{partOf, partFits}
-use Rattle.cart.specs.declared.ChipRecord.{ChipRecord}
-use Rattle.cart.specs.ChipState.{chipRecordSize}
-use Rattle.cart.specs.States.{stateSize, flagAt, layoutNumber, eighteenOf}
+use Rattle.chip_record.specs.declared.ChipRecord.{ChipRecord}
+use Rattle.chip_record.specs.ChipState.{chipRecordSize}
+use Rattle.chip_record.specs.States.{stateSize, flagAt, layoutNumber, eighteenOf}
 use Rattle.cart.specs.Record.{State, Outcome, outcomeOf, outcome, recordAllowed, fromBytes}
 use Rattle.cart.specs.Calls.{Call, saveRead, loadSave, chipState, takeSaveDirty}
 use Rattle.cart.specs.Calls.{chipWith, restoreQuestions, step, restore, importSave}

@@ -11,7 +11,7 @@ use Rattle.lists.specs.Questions.{Question, asked}
 use Rattle.lists.proofs.Bools.{cases}
 use Rattle.hex.specs.Hex.{hex}
 use Rattle.cart.specs.declared.Cartridge.{Cartridge}
-use Rattle.cart.specs.ChipState.{chipBytes}
+use Rattle.chip_record.specs.ChipState.{chipBytes}
 use Rattle.cart.specs.Record.{State, Outcome, guarded, outcome, counted}
 use Rattle.cart.specs.Calls.{Call, questions, accepted, step, saveRead, saveWrite, eepromBeginDma, eepromWrite, eepromRead, chipState}
 use Rattle.cart.specs.Replies.{state, tallied, replyOf}

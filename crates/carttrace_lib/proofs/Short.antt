@@ -7,7 +7,7 @@ use lib.ListN.{length}
 use Rattle.lists.specs.Lists.{lowFirst}
 use Rattle.lists.specs.Questions.{asked}
 use Rattle.lists.proofs.Bools.{either}
-use Rattle.cart.specs.ChipState.{chipBytes}
+use Rattle.chip_record.specs.ChipState.{chipBytes}
 use Rattle.cart.specs.Record.{State, Outcome}
 use Rattle.cart.specs.Calls.{Call, questions, accepted, step, saveRead, saveWrite, eepromBeginDma, eepromWrite, eepromRead, chipState, takeSaveDirty}
 use Rattle.frames.specs.declared.Frame.{Frame}

@@ -11,7 +11,7 @@ use Rattle.kind.specs.Kind.{memorySize, tallyCount}
 use Rattle.part.specs.declared.Part.the-variants.{Usual}
 use Rattle.cart.specs.declared.Cartridge.{Cartridge}
 use Rattle.cart.specs.declared.Reply.{Reply}
-use Rattle.cart.specs.ChipState.{stateSize}
+use Rattle.chip_record.specs.ChipState.{stateSize}
 use Rattle.cart.specs.Record.{State, Outcome, freshCart}
 use Rattle.cart.specs.Calls.{saveRead, saveWrite, eepromBeginDma, eepromWrite, eepromRead}
 use Rattle.cart.specs.Calls.{chipState, takeSaveDirty, step}

@@ -9,7 +9,7 @@ ghost use mathlib.Core.Path.{_≡_};
 ghost use mathlib.Core.List.{[]};
 ghost use Prim.Native.Nat.{_≤_};
 ghost use lib.ListN.{length};
-ghost use Rattle.cart.specs.ChipState.{stateSize};
+ghost use Rattle.chip_record.specs.ChipState.{stateSize};
 ghost use Rattle.cart.specs.Replies.{tallied};
 ghost use Rattle.frames.specs.Frames.{lineOf};
 ghost use Rattle.carttrace_lib.specs.Trace.{longestLine, play as play·spec, statusLine, valueLine, stateLine};

@@ -6,7 +6,7 @@ use Prim.Native.Nat.{ℕ, _+_}
 use lib.Dec.{eqb}
 use lib.ListN.{length, getD, take, drop}
 use Rattle.lists.specs.Lists.{into}
-use Rattle.cart.specs.ChipState.{stateSize}
+use Rattle.chip_record.specs.ChipState.{stateSize}
 use Rattle.frames.specs.Frames.{lineOf}
 use Rattle.call_list.specs.declared.Item.{Item}
 use Rattle.call_list.specs.Items.{high32, itemRoom, isItem}

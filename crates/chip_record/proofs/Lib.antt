@@ -1,0 +1,3 @@
+pub mod ChipState
+pub mod Fields
+pub mod Layouts
