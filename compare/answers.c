@@ -2,10 +2,11 @@
  * Replays the stored answers of the original through the C calls, without the original: reads the list that README.md describes, makes the
  * call of each line and compares the answer. The list has no number of changed bytes: after each call that stores, the number is compared with
  * a count over the memory before and after the call. Nor has it tallies: after each call on the cartridge, they and the two answers from them are
- * compared with a reading of the memory. Prints the first lines that differ, then for each frame how many lines were replayed and how many of them
- * differ. The status is 1 if an answer or a number differs, if the list is malformed or if a line of it was not replayed.
- * --fault count counts one changed byte too few, --fault tallies one byte in use, and --fault stretches numbers stretches from 1. Each has to be
- * found.
+ * compared with a reading of the memory. The list's states have 18 bytes: of each state that is taken, the other two are compared with the flag and
+ * the layout number, and each restore is also made with 20 bytes. Prints the first lines that differ, then for each frame how many lines were
+ * replayed and how many of them differ. The status is 1 if an answer or a number differs, if the list is malformed or if a line of it was not
+ * replayed. --fault count counts one changed byte too few, --fault tallies one byte in use, --fault stretches numbers stretches from 1, and
+ * --fault flag expects the other flag in a state. Each has to be found.
  */
 #include "gbasave.h"
 
@@ -45,8 +46,8 @@ static uint8_t file[FILE_MAX];
 static uint8_t before[GBASAVE_MEMORY_MAX];
 
 /* What is counted or numbered wrongly. */
-static enum { NOTHING, COUNT, TALLIES, STRETCHES } fault;
-static const char *const FAULT[] = {"nothing", "count", "tallies", "stretches"};
+static enum { NOTHING, COUNT, TALLIES, STRETCHES, FLAG } fault;
+static const char *const FAULT[] = {"nothing", "count", "tallies", "stretches", "flag"};
 
 /* Lines, by the frame's number. */
 static struct {
@@ -183,6 +184,39 @@ static void put_tallies(struct answer *a)
                                      (unsigned long)first, (unsigned long)expected);
 }
 
+/* ---- States -------------------------------------------------------------------------------------------------------- */
+
+/* The changed flag of a record. */
+static uint8_t flag_of(const gbasave_record *record)
+{
+    return record->bytes[GBASAVE_RECORD_FLAG] ^ (fault == FLAG);
+}
+
+/* The first 18 bytes of a state. If flag and layout number after them are others, that is in the answer too, which then differs. */
+static void put_state(struct answer *a, const uint8_t state[GBASAVE_STATE_SIZE])
+{
+    put_bytes(a, state, GBASAVE_CHIP_SIZE);
+    if (state[GBASAVE_STATE_FLAG] != flag_of(&cart.record) || state[GBASAVE_STATE_LAYOUT] != 2)
+        a->count += (size_t)snprintf(a->digits + a->count, sizeof a->digits - a->count, " and %u %u", (unsigned)state[GBASAVE_STATE_FLAG],
+                                     (unsigned)state[GBASAVE_STATE_LAYOUT]);
+}
+
+/* 00, or the number of the refusal, of 18 bytes that have been restored. If the 20 of layout 2 with the same flag have another answer or leave
+   another record than these have, or if the flag has changed, that is in the answer too, which then differs. */
+static void put_restored(struct answer *a, uint32_t refusal, const uint8_t chip[GBASAVE_CHIP_SIZE], const gbasave_record *before_restore)
+{
+    uint8_t state[GBASAVE_STATE_SIZE];
+    gbasave_record other = *before_restore;
+    memcpy(state, chip, GBASAVE_CHIP_SIZE);
+    state[GBASAVE_STATE_FLAG] = flag_of(before_restore);
+    state[GBASAVE_STATE_LAYOUT] = 2;
+    put_status(a, refusal);
+    const uint32_t other_refusal = gbasave_restore_chip_state(&other, state, sizeof state);
+    if (other_refusal != refusal || memcmp(&other, &cart.record, sizeof other) != 0)
+        a->count += (size_t)snprintf(a->digits + a->count, sizeof a->digits - a->count, " and %lu from 20 bytes, or another record",
+                                     (unsigned long)other_refusal);
+}
+
 /* ---- Files and images ---------------------------------------------------------------------------------------------- */
 
 static void make_file(size_t length, uint8_t seed)
@@ -297,7 +331,7 @@ static void chip_record(struct answer *a)
     uint8_t state[GBASAVE_STATE_SIZE];
     memset(state, UNWRITTEN, sizeof state);
     if (put_status(a, gbasave_chip_state(&cart.record, state)))
-        put_bytes(a, state, sizeof state);
+        put_state(a, state);
 }
 
 /* 08 length (6) seed (2) */
@@ -325,7 +359,9 @@ static void export(struct answer *a)
 /* 0A 18 bytes (36) */
 static void restore(const uint8_t *s, struct answer *a)
 {
-    put_status(a, gbasave_restore_chip_state(&cart.record, s, GBASAVE_STATE_SIZE));
+    const gbasave_record before_restore = cart.record;
+    const uint32_t refusal = gbasave_restore_chip_state(&cart.record, s, GBASAVE_CHIP_SIZE);
+    put_restored(a, refusal, s, &before_restore);
 }
 
 /* 0B kind (2) image length (8) */
@@ -546,7 +582,7 @@ int main(int argc, char **argv)
             fault = i;
     FILE *stream = argc == 2 || fault != NOTHING ? fopen(argv[1], "rb") : NULL;
     if (stream == NULL) {
-        fprintf(stderr, "usage: answers LIST [--fault count | tallies | stretches], where LIST is a file that can be read\n");
+        fprintf(stderr, "usage: answers LIST [--fault count | tallies | stretches | flag], where LIST is a file that can be read\n");
         return 2;
     }
     const struct text list = {room, fread(room, 1, sizeof room, stream)};

@@ -202,9 +202,9 @@ static int held(uint32_t answer, uint32_t no, uint32_t changed)
 }
 
 /* A restore of any bytes, which is not passed the tallies; a serial or flash position if it is to be accepted. */
-static int restored(const uint8_t *chip, uint32_t no)
+static int restored(const uint8_t *state, size_t length, uint32_t no)
 {
-    const uint32_t answer = gbasave_restore_chip_state(&cart.record, chip, GBASAVE_STATE_SIZE);
+    const uint32_t answer = gbasave_restore_chip_state(&cart.record, state, length);
     return held(answer, no, no ? (uint32_t)PLACE : 0);
 }
 
@@ -224,11 +224,11 @@ static int store_byte(void)
 {
     static const uint8_t VALUES[] = {0xFF, 0xFF, 0x00, 0x5A, 0xFE};
     const uint32_t at = place_of_byte(), what = random_below(16);
-    uint8_t chip[GBASAVE_STATE_SIZE] = {what < 10 ? 4 : what < 15 ? 8 : 0, (uint8_t)(at >> 16)}, value = VALUES[random_below(sizeof VALUES)];
+    uint8_t chip[GBASAVE_CHIP_SIZE] = {what < 10 ? 4 : what < 15 ? 8 : 0, (uint8_t)(at >> 16)}, value = VALUES[random_below(sizeof VALUES)];
     uint32_t changed = PLACE;
     if (cart.kind == GBASAVE_KIND_FLASH64 || cart.kind == GBASAVE_KIND_FLASH128) {
         value = what < 10 ? value : what < 14 ? 0x30 : 0x10;
-        if (restored(chip, 0))
+        if (restored(chip, sizeof chip, 0))
             return 1;
     }
     const uint32_t answer = gbasave_save_write(&cart.record, scratch, SIZE[cart.kind], tallies, tallies_of(cart.kind), at, value, &changed);
@@ -240,11 +240,11 @@ static int store_block(void)
 {
     static const uint16_t BLOCKS[] = {0, 511, 512, 1023};
     const uint32_t block = random_below(2) ? BLOCKS[random_below(4)] : random_below(1024);
-    uint8_t chip[GBASAVE_STATE_SIZE] = {0, 0, 0, 14, 1, 3, 63, (uint8_t)block, (uint8_t)(block >> 8)};
-    for (unsigned i = 10; i < GBASAVE_STATE_SIZE; i++)
+    uint8_t chip[GBASAVE_CHIP_SIZE] = {0, 0, 0, 14, 1, 3, 63, (uint8_t)block, (uint8_t)(block >> 8)};
+    for (unsigned i = 10; i < GBASAVE_CHIP_SIZE; i++)
         chip[i] = (uint8_t)(random_below(2) ? 0xFF : random_below(256));
     uint32_t changed = PLACE;
-    if (restored(chip, 0))
+    if (restored(chip, sizeof chip, 0))
         return 1;
     const uint32_t answer =
         gbasave_eeprom_write(&cart.record, scratch, SIZE[cart.kind], tallies, tallies_of(cart.kind), random_below(2), &changed);
@@ -286,16 +286,19 @@ static int import(void)
     return held(answer, takes(cart.kind, length) ? 0 : 14, changed);
 }
 
-/* A restore of bytes with some chance to be allowed. Which question refuses them is asked elsewhere. */
+/* A restore of bytes with some chance to be allowed, of either layout. Which question refuses them is asked elsewhere. */
 static int restore_any(void)
 {
     static const uint8_t BELOW[] = {10, 2, 2, 15, 2, 7};
-    uint8_t chip[GBASAVE_STATE_SIZE] = {0};
+    const size_t length = random_below(2) ? GBASAVE_STATE_SIZE : GBASAVE_CHIP_SIZE;
+    uint8_t state[GBASAVE_STATE_SIZE] = {0};
     gbasave_record other = cart.record;
     for (size_t i = 0; i < sizeof BELOW; i++)
-        chip[i] = (uint8_t)random_below(BELOW[i]);
-    chip[3] = chip[3] < 7 ? 0 : chip[3] < 14 ? 14 : 6;
-    return restored(chip, gbasave_restore_chip_state(&other, chip, sizeof chip));
+        state[i] = (uint8_t)random_below(BELOW[i]);
+    state[3] = state[3] < 7 ? 0 : state[3] < 14 ? 14 : 6;
+    state[GBASAVE_STATE_FLAG] = (uint8_t)random_below(3);
+    state[GBASAVE_STATE_LAYOUT] = random_below(8) ? 2 : 1;
+    return restored(state, length, gbasave_restore_chip_state(&other, state, length));
 }
 
 /* A call that stores, with a wrong number of tallies; or with a wrong memory too; or with an invalid record too. */

@@ -1,18 +1,18 @@
 /*
  * Which question refuses which call: every call on a record, with records, memories and numbers of tallies around every limit, and every opening and
- * ID word by part and kind, held against document 01's "Questions at the door" and document 02's tickets 1 and 4 as written here. The original cannot
- * be asked: it has no such records, memories, tallies, destinations and parts. A refused call has to leave record, memory, tallies, destination and
- * places as they were; a refused opening makes the record zeros. ID mode has to show each part's word. An accepted call that stores has to write how
- * many bytes of the memory it changed, ticket 2's number, and to add its change to the tallies, ticket 4's, whatever they were. Searches in pieces,
- * ticket 3's, are asked with matchers that are none and with such as no image leads to: refused they have to leave matcher and places, else they have
- * to step as written here. --fault NAME expects something wrong, which has to be found.
+ * ID word by part and kind, held against document 01's "Questions at the door" and document 02's tickets 1, 4 and 5 as written here. The original
+ * cannot be asked: it has no such records, memories, tallies, destinations and parts. A refused call has to leave record, memory, tallies,
+ * destination and places as they were; a refused opening makes the record zeros. ID mode has to show each part's word. An accepted call that stores
+ * has to write how many bytes of the memory it changed, ticket 2's number, and to add its change to the tallies, ticket 4's, whatever they were.
+ * Searches in pieces, ticket 3's, are asked with matchers that are none and with such as no image leads to: refused they have to leave matcher and
+ * places, else they have to step as written here. --fault NAME expects something wrong, which has to be found.
  */
 #include "questions.h"
 
 #include <stdio.h>
 #include <string.h>
 
-enum { CALLS = 17, PARTS = 6 };
+enum { CALLS = 18, PARTS = 6 };
 
 const uint32_t SIZE[KINDS] = {0, 32768, 65536, 131072, 8192, 8192};
 
@@ -36,8 +36,9 @@ uint8_t image[GBASAVE_IMAGE_MAX + 1];
 static uint8_t other_file[512];
 
 fault_name fault;
-static const char *const FAULT[] = {"nothing",  "count",  "records", "sizes",  "order", "words",   "maker",  "loads",     "refused",
-                                    "matchers", "finish", "late",    "opened", "reset", "tallies", "modulo", "stretches", "sum"};
+static const char *const FAULT[] = {"nothing",   "count",    "records", "sizes", "order",   "words", "maker",   "loads",
+                                    "refused",   "matchers", "finish",  "late",  "opened",  "reset", "tallies", "modulo",
+                                    "stretches", "sum",      "layout",  "early", "cleared", "left"};
 
 unsigned long calls, by_number[REFUSALS];
 
@@ -61,16 +62,30 @@ static uint32_t word_of(uint32_t part, uint32_t kind)
     return part == 0 ? USUAL_WORD[kind] : PART_WORD[part];
 }
 
-/* 2: "Is the record's image length in that range and each chip field allowed?", of the table of the chip record; "A record whose named part does
-   not have its kind's size is a no at question 2." */
-static int is_record(const uint8_t *r)
+/* 7 to 12, of the table of the chip record. */
+uint32_t chip_no(const uint8_t *c)
 {
-    const uint32_t length = r[0] | (uint32_t)r[1] << 8 | (uint32_t)r[2] << 16 | (uint32_t)r[3] << 24;
-    const uint8_t *c = r + GBASAVE_RECORD_CHIP;
     const unsigned w = c[3] != 0 ? c[3] : c[4] == 1 ? 14 : 6;
     const unsigned limit[7] = {2, w, w, 64 + (fault == COUNT), 1, 1, 1};
-    return length >= 192 && length <= 33554432 && r[4] <= 5 && r[5] <= 1 && c[0] <= 8 && c[0] != 3 && c[1] <= 1 && c[2] <= 1 &&
-           (c[3] == 0 || c[3] == 6 || c[3] == 14) && c[4] <= 1 && c[5] <= 6 && c[6] < limit[c[5]] && (c[7] | c[8] << 8) <= 1023 && c[9] <= 67 &&
+    if (c[5] > 6)
+        return 7;
+    if (c[0] > 8 || c[0] == 3)
+        return 8;
+    if (c[1] > 1 || c[2] > 1 || c[4] > 1)
+        return 9;
+    if (c[3] != 0 && c[3] != 6 && c[3] != 14)
+        return 10;
+    if (c[6] > 64 || (c[7] | c[8] << 8) > 1023 || c[9] > 67)
+        return 11;
+    return c[6] < limit[c[5]] ? 0 : 12;
+}
+
+/* 2: "Is the record's image length in that range and each chip field allowed?", of the table of the chip record; "A record whose named part does
+   not have its kind's size is a no at question 2." */
+int is_record(const uint8_t *r)
+{
+    const uint32_t length = r[0] | (uint32_t)r[1] << 8 | (uint32_t)r[2] << 16 | (uint32_t)r[3] << 24;
+    return length >= 192 && length <= 33554432 && r[4] <= 5 && r[5] <= 1 && chip_no(r + GBASAVE_RECORD_CHIP) == 0 &&
            (fault == RECORDS || fits(r[GBASAVE_RECORD_PART], r[4]));
 }
 
@@ -200,7 +215,7 @@ static int read_bytes(void)
     for (unsigned kind = 0; kind < KINDS; kind++)
         for (uint32_t part = 0; part < PARTS; part++)
             for (unsigned switches = 0; switches < 4 && fits(part, kind); switches++) {
-                const uint8_t chip[GBASAVE_STATE_SIZE] = {0, switches & 1, switches >> 1};
+                const uint8_t chip[GBASAVE_CHIP_SIZE] = {0, switches & 1, switches >> 1};
                 gbasave_record r;
                 fresh_record(r.bytes, 192, kind, part);
                 memcpy(scratch, copy, LONGEST);
@@ -363,7 +378,7 @@ static int ask_matcher(const uint8_t *m)
 /* Every byte with every value, beside first four bytes of 0 and of 1; then all four around their limit. */
 static int ask_matchers(void)
 {
-    static const uint8_t NEAR[] = {0, 1, 2, 255};
+    static const uint8_t LIMITS[] = {0, 1, 2, 255};
     uint8_t m[MATCHER];
     for (unsigned at = 0; at < MATCHER; at++)
         for (unsigned value = 0; value < 256; value++)
@@ -377,7 +392,7 @@ static int ask_matchers(void)
     memset(m, 0, MATCHER);
     for (unsigned i = 0; i < 256; i++) {
         for (unsigned at = 0; at < 4; at++)
-            m[at] = NEAR[i >> 2 * at & 3];
+            m[at] = LIMITS[i >> 2 * at & 3];
         if (ask_matcher(m))
             return 1;
     }
@@ -498,14 +513,16 @@ static uint32_t first_no(unsigned call, const uint8_t *r, size_t memory, size_t 
         return 3;
     if (fault == LATE && own_no(call, r))
         return own_no(call, r);
-    if ((stores(call) || call >= 15) && count != tallies_of(kind))
+    if ((stores(call) || call == 15 || call == 16) && count != tallies_of(kind))
         return 16;
     return own_no(call, r);
 }
 
+/* What call 14 restores, by its first 18 bytes, and call 17, by all 20: at rest, the flag 1, layout 2. */
+static const uint8_t RESTORED[GBASAVE_STATE_SIZE] = {[18] = 1, [19] = 2};
+
 uint32_t made(unsigned call, gbasave_record *r, uint8_t *memory, size_t length, size_t count, uint8_t *bytes, uint32_t *place, uint32_t *changed)
 {
-    static const uint8_t state[GBASAVE_STATE_SIZE];
     switch (call) {
     case 0: return gbasave_save_read(r, memory, length, 0x1234, place);
     case 1: return gbasave_save_write(r, memory, length, tallies, count, 0x1234, 0x12, changed);
@@ -521,9 +538,10 @@ uint32_t made(unsigned call, gbasave_record *r, uint8_t *memory, size_t length, 
     case 11: return gbasave_take_save_dirty(r, place);
     case 12: return gbasave_uses_eeprom(r, place);
     case 13: return gbasave_eeprom_window_start(r, place);
-    case 14: return gbasave_restore_chip_state(r, state, sizeof state);
+    case 14: return gbasave_restore_chip_state(r, RESTORED, GBASAVE_CHIP_SIZE);
     case 15: return gbasave_is_blank(r, tallies, count, place);
-    default: return gbasave_first_in_use(r, tallies, count, place);
+    case 16: return gbasave_first_in_use(r, tallies, count, place);
+    default: return gbasave_restore_chip_state(r, RESTORED, GBASAVE_STATE_SIZE);
     }
 }
 
@@ -545,6 +563,19 @@ static int wrong(const char *what, unsigned call, const uint8_t *r, size_t memor
         printf(" %02X", r[i]);
     printf("\n");
     return 1;
+}
+
+/* What an accepted call about states leaves: the 20 bytes of a taken one and the destination after them, or the record. */
+static int other_state(unsigned call, const uint8_t *given, const gbasave_record *r, const uint8_t *destination)
+{
+    uint8_t state[GBASAVE_STATE_SIZE + 1] = {0}, left[RECORD];
+    memcpy(left, given, RECORD);
+    if (call == 10) {
+        make_state(state, given);
+        return memcmp(destination, state, sizeof state) != 0;
+    }
+    restore_expected(left, RESTORED, call == 14 ? GBASAVE_CHIP_SIZE : GBASAVE_STATE_SIZE);
+    return memcmp(r->bytes, left, RECORD) != 0;
 }
 
 int ask(const uint8_t *given, size_t memory, size_t count)
@@ -569,6 +600,8 @@ int ask(const uint8_t *given, size_t memory, size_t count)
             return wrong("the part is changed", call, given, memory, count);
         if (!no && ((call == 15 && place != blank_by_tallies(count)) || (call == 16 && place != first_by_tallies(count))))
             return wrong("another answer from the tallies", call, given, memory, count);
+        if (!no && (call == 10 || call == 14 || call == 17) && other_state(call, given, &r, destination))
+            return wrong("another state", call, given, memory, count);
     }
     return 0;
 }
@@ -581,10 +614,11 @@ static int ask_all(const uint8_t *given)
            ask(given, size == 65536 ? 131072 : 65536, count) || ask(given, size, count + 1) || ask(given, size, less);
 }
 
+const uint8_t NEAR[NEARS] = {0, 1, 2, 3, 4, 5, 6, 7, 8, 9, 13, 14, 15, 63, 64, 65, 67, 68, 255};
+
 /* The record, and those around it. */
 static int ask_near(const uint8_t *r)
 {
-    static const uint8_t NEAR[] = {0, 1, 2, 3, 4, 5, 6, 7, 8, 9, 13, 14, 15, 63, 64, 65, 67, 68, 255};
     uint8_t other[RECORD];
     /* every byte with every value */
     for (unsigned at = 0; at < RECORD; at++)
@@ -597,10 +631,10 @@ static int ask_near(const uint8_t *r)
     /* every two of bytes 4 to 15 and of the part around their limits */
     for (unsigned a = 4; a < 16; a++)
         for (unsigned b = a + 1; b < 17; b++)
-            for (size_t i = 0; i < sizeof NEAR * sizeof NEAR; i++) {
+            for (size_t i = 0; i < NEARS * NEARS; i++) {
                 memcpy(other, r, RECORD);
-                other[a] = NEAR[i / sizeof NEAR];
-                other[b < 16 ? b : GBASAVE_RECORD_PART] = NEAR[i % sizeof NEAR];
+                other[a] = NEAR[i / NEARS];
+                other[b < 16 ? b : GBASAVE_RECORD_PART] = NEAR[i % NEARS];
                 const size_t size = other[4] < KINDS ? SIZE[other[4]] : 0;
                 if (ask(other, size, size / STRETCH))
                     return 1;
@@ -653,15 +687,15 @@ int main(int argc, char **argv)
             fault = i;
     if (argc > 1 && fault == NOTHING) {
         fprintf(stderr, "usage: questions [--fault count | records | sizes | order | words | maker | loads | refused | matchers | finish | late |\n"
-                        "                           opened | reset | tallies | modulo | stretches | sum]\n");
+                        "                           opened | reset | tallies | modulo | stretches | sum | layout | early | cleared | left]\n");
         return 2;
     }
     for (size_t i = 0; i < LONGEST; i++)
         kept[i] = copy[i] = file[i] = (uint8_t)(i * 31 + i / 256);
     for (size_t i = 0; i < sizeof other_file; i++)
         other_file[i] = i < 100 ? file[i] : (uint8_t)~file[i];
-    if (ask_words() || ask_starts() || ask_matchers() || ask_pieces() || ask_searches() || read_bytes() || ask_tallies() || ask_counts() ||
-        ask_lists() || ask_openings(GBASAVE_KIND_NONE, GBASAVE_KIND_EEPROM512) || ask_records() ||
+    if (ask_words() || ask_starts() || ask_matchers() || ask_pieces() || ask_searches() || read_bytes() || ask_states() || ask_tallies() ||
+        ask_counts() || ask_lists() || ask_openings(GBASAVE_KIND_NONE, GBASAVE_KIND_EEPROM512) || ask_records() ||
         ask_openings(GBASAVE_KIND_EEPROM8K, GBASAVE_KIND_EEPROM8K))
         return 1;
     if (memcmp(kept, copy, LONGEST) != 0) {

@@ -14,7 +14,7 @@
  *     bytes 0-3    the image's length, low byte first, 192 to 33,554,432
  *     byte  4      the kind, 0 to 5
  *     byte  5      the changed flag, 0 or 1
- *     bytes 6-23   the chip record: the 18 bytes of gbasave_chip_state
+ *     bytes 6-23   the chip record, the first 18 bytes of gbasave_chip_state
  *     byte  24     the part, 0 to 5
  *
  * A record is valid if each of its fields has an allowed value and its part fits its kind. 25 bytes that are not a
@@ -73,7 +73,7 @@
  *      3   Does the memory have its kind's length?
  *      4   Does the kind have an EEPROM?
  *      5   Are fewer than 6 bits of an address in, or is no address being received?
- *      6   Does the state have 18 bytes?
+ *      6   Does the state have 18 or 20 bytes?
  *      7   Is the state's phase allowed?
  *      8   Is the state's flash state allowed?
  *      9   Are the state's bank, ID mode and large each 0 or 1?
@@ -84,6 +84,8 @@
  *     14   Is the file's length one for this kind? (For kind NONE no length is.)
  *     15   Does the part have the kind's size? (The usual part fits every kind, a number above 5 none.)
  *     16   Are the tallies as many as the kind has? (It is asked after 3, and before 4, 14 and 15.)
+ *     17   Is byte 19 of the state, its layout number, 2? (Only of 20 bytes. It is asked after 6, and before 7.)
+ *     18   Is byte 18 of the state, the changed flag, 0 or 1? (Only of 20 bytes. It is asked after 12.)
  *
  * A REFUSED CALL CHANGES NOTHING: the record, the matcher, the memory, the tallies, the destination, the state and
  * every out-parameter keep their values. The one exception is gbasave_from_bytes: if it is refused it writes 25 zeros
@@ -136,7 +138,7 @@
  * Load and restore on an open cartridge keep right tallies right.
  *
  * WHAT THE CALLER HAS TO ENSURE, in every call. A buffer is a pointer and a length in bytes. (For the state of
- * gbasave_chip_state the length is 18. Tallies are a buffer whose length is how many there are.)
+ * gbasave_chip_state the length is 20. Tallies are a buffer whose length is how many there are.)
  *   - No pointer is NULL, except that of a buffer whose length is 0. Such a pointer may be any pointer, also NULL, as
  *     an empty std::vector has it. Nothing is read or written through it.
  *   - No two of the objects passed to one call overlap: no two of record, matcher, image, header, piece, memory,
@@ -178,13 +180,18 @@
  *
  * TO TAKE A STATE, keep:
  *   - the file from gbasave_save_data, if there is one (*length is not 0);
- *   - the 18 bytes from gbasave_chip_state;
+ *   - the state's 20 bytes from gbasave_chip_state. The changed flag is one of them;
  *   - what identifies the cartridge: the kind and the image's length (both in the record), and gbasave_rom_crc of the
  *     image. Compute the CRC once, when the image is opened;
  *   - the part with which the cartridge was opened (the record's byte GBASAVE_RECORD_PART).
- * The tallies need not be kept. The file and the 18 bytes do not say to which cartridge they belong, nor with which
+ * The tallies need not be kept. The file and the 20 bytes do not say to which cartridge they belong, nor with which
  * part it was opened. gbasave_load_save and gbasave_restore_chip_state accept those of another cartridge, also of
  * another kind or part, and overwrite its save. Only the caller can prevent this.
+ *
+ * LAYOUTS OF A STATE. The 20 bytes are layout 2: the 18 bytes of the chip record, the changed flag, and the layout
+ * number 2. Versions before 0.7.0 wrote layout 1: the chip record alone, 18 bytes. gbasave_restore_chip_state takes
+ * both, and the length tells them apart. 18 bytes leave the changed flag as it is. gbasave_chip_state writes layout 2;
+ * its first 18 bytes are the same as in layout 1.
  *
  * TO RESUME A STATE, in this process or in another:
  *   1. Compare the kind, the image's length and the CRC with those of the cartridge that is to go on. If one of them
@@ -192,26 +199,48 @@
  *      the part differs, stop, or open the cartridge again with the state's part: with another part the game may find
  *      another chip than before. Check also that the file is complete: the load takes a file of any length.
  *   2. If that cartridge is not open, open it with gbasave_from_bytes and the state's part. If it is open with that
- *      part, keep its record, its memory and its tallies: opening it again makes no difference except to the flag, and
- *      takes the time of a search of the image. (Foreign tallies would stay foreign: open it again, or count them.)
- *   3. Pass the 18 bytes to gbasave_restore_chip_state. If they are refused, stop: the cartridge is unchanged.
- *   4. If there is a file, pass it to gbasave_load_save, and set the record's byte GBASAVE_RECORD_FLAG, the changed
- *      flag, to 1.
- *   5. Pass the 18 bytes to gbasave_restore_chip_state again, since the load may have made the chip large.
- * The changed flag is not in a state, and neither the load nor the restore sets it. But the memory now holds the
- * state's file, and not the one that was written out last. Without the flag, a host that writes the file only when the
- * flag is 1 would not write it, and the save would be lost.
+ *      part, keep its record, its memory and its tallies: opening it again makes no difference (with 18 bytes, none
+ *      except to the flag), and takes the time of a search of the image. (Foreign tallies would stay foreign: open it
+ *      again, or count them.)
+ *   3. Pass the state, 20 bytes or the 18 of an old one, to gbasave_restore_chip_state. If it is refused, stop: the
+ *      cartridge is unchanged.
+ *   4. If there is a file, pass it to gbasave_load_save.
+ *   5. Pass the state to gbasave_restore_chip_state again, since the load may have made the chip large.
+ *   6. If there is a file, and the state has 18 bytes or the host is not sure that its save file is still the one of
+ *      the moment when the state was taken: set the record's byte GBASAVE_RECORD_FLAG, the changed flag, to 1.
+ * The save file is the one that the host writes out when the flag is 1. Byte 18 of a state says whether the save file
+ * was out of date when the state was taken.
+ *   - A host that goes on from the file and the state as it left them, as a console that was switched off, does not
+ *     need step 6. The flag comes with the state: if it is 1, the next gbasave_take_save_dirty tells the host to write
+ *     out the file.
+ *   - A host that has written out another file since then, and now resumes the older state, needs step 6. The memory
+ *     holds the state's file and the save file is another one, but byte 18 may be 0. Without the flag such a host would
+ *     not write out the file, and the save would be lost.
+ *   - 18 bytes have no flag. After an opening it is 0, in an open cartridge it is the cartridge's own.
+ *   - A host that is not sure sets the flag. At worst it writes out the same file again.
+ * Step 6 comes after step 5, since a restore of 20 bytes replaces the flag.
  *
  * WHAT IS PROVED OF STATES. Every later answer, file and state is the same as if no state had been taken and resumed,
  * where both cartridges are opened with the same part: the one of which the state is taken and the one in which it is
- * resumed. The numbers of changed bytes are among the answers. This holds for every part, and for every list of these
- * ten calls, refused ones included: gbasave_save_read, gbasave_save_write, gbasave_eeprom_begin_dma,
- * gbasave_eeprom_write, gbasave_eeprom_read, gbasave_load_save, gbasave_save_data, gbasave_import_save,
- * gbasave_chip_state and gbasave_take_save_dirty. It holds wherever between the calls states are taken and resumed,
- * also between two bits of a serial command, and however often. It does not cover the changed flag, lists with a byte
- * write to an EEPROM kind, or the restoring of other states. It is also proved that load and restore on the open
- * cartridge of the same image and part leave the same memory as opening, load and restore, and the same record except
- * for the flag: opening sets it to 0, load and restore keep it.
+ * resumed. The numbers of changed bytes are among the answers.
+ *   - If every state is resumed with its 20 bytes, nothing is left out: the answers of gbasave_take_save_dirty and all
+ *     20 bytes of later states are the same too.
+ *   - If one state or more is resumed with its first 18 bytes alone, the answers of gbasave_take_save_dirty and byte 18
+ *     of the states are left out, everywhere in the list.
+ * This holds for every part, and for every list of these ten calls, refused ones included: gbasave_save_read,
+ * gbasave_save_write, gbasave_eeprom_begin_dma, gbasave_eeprom_write, gbasave_eeprom_read, gbasave_load_save,
+ * gbasave_save_data, gbasave_import_save, gbasave_chip_state and gbasave_take_save_dirty. It holds wherever between the
+ * calls states are taken and resumed, also between two bits of a serial command, and however often. To resume means
+ * here to open, load and restore; the caller does not set the flag. The claim does not cover lists with a byte write to
+ * an EEPROM kind, or the restoring of other states.
+ *
+ * It is also proved that load and restore on the open cartridge of the same image and part leave the same memory and
+ * record as opening, load and restore. If the state has 18 bytes, only the flag may differ: opening sets it to 0, load
+ * and restore keep it.
+ *
+ * Of a state's bytes it is proved: 20 bytes that gbasave_restore_chip_state accepts are those that gbasave_chip_state
+ * then writes. 18 bytes that it accepts are the first 18 of those. A state that gbasave_chip_state has written is
+ * accepted, and makes the chip record and the flag what they were.
  */
 #ifndef GBASAVE_H
 #define GBASAVE_H
@@ -224,13 +253,14 @@ extern "C" {
 #endif
 
 /* The version of this header and of its archive, as a text and as a number: major * 10000 + minor * 100 + patch. */
-#define GBASAVE_VERSION "0.6.0"
-#define GBASAVE_VERSION_NUMBER 600
+#define GBASAVE_VERSION "0.7.0"
+#define GBASAVE_VERSION_NUMBER 700
 
 /* Sizes in bytes. */
 #define GBASAVE_RECORD_SIZE 25
 #define GBASAVE_MATCHER_SIZE 13
-#define GBASAVE_STATE_SIZE 18
+#define GBASAVE_STATE_SIZE 20   /* layout 2 */
+#define GBASAVE_CHIP_SIZE 18    /* the chip record; also an old state, of layout 1 */
 #define GBASAVE_TITLE_SIZE 36   /* the longest title */
 #define GBASAVE_HEADER_SIZE 192 /* the image's first bytes, which gbasave_matcher_finish takes */
 #define GBASAVE_IMAGE_MIN 192
@@ -285,7 +315,9 @@ typedef enum gbasave_refusal {
     GBASAVE_REFUSED_DESTINATION_LENGTH = 13,
     GBASAVE_REFUSED_FILE_LENGTH = 14,
     GBASAVE_REFUSED_PART = 15,
-    GBASAVE_REFUSED_TALLY_COUNT = 16
+    GBASAVE_REFUSED_TALLY_COUNT = 16,
+    GBASAVE_REFUSED_STATE_LAYOUT = 17,
+    GBASAVE_REFUSED_STATE_FLAG = 18
 } gbasave_refusal;
 
 /* Returns a short text for the return value of a call. */
@@ -298,7 +330,7 @@ static inline const char *gbasave_refusal_text(uint32_t answer)
     case GBASAVE_REFUSED_MEMORY_LENGTH: return "the save memory does not have its kind's length";
     case GBASAVE_REFUSED_NO_EEPROM: return "the cartridge has no EEPROM";
     case GBASAVE_REFUSED_DMA_TOO_LATE: return "the DMA length comes too late in an address";
-    case GBASAVE_REFUSED_STATE_LENGTH: return "the chip state is not 18 bytes long";
+    case GBASAVE_REFUSED_STATE_LENGTH: return "the chip state is neither 18 nor 20 bytes long";
     case GBASAVE_REFUSED_STATE_PHASE: return "the chip state's phase is not allowed";
     case GBASAVE_REFUSED_STATE_FLASH: return "the chip state's flash state is not allowed";
     case GBASAVE_REFUSED_STATE_SWITCHES: return "the chip state's bank, ID mode or large is neither 0 nor 1";
@@ -309,6 +341,8 @@ static inline const char *gbasave_refusal_text(uint32_t answer)
     case GBASAVE_REFUSED_FILE_LENGTH: return "no file of this kind has this length";
     case GBASAVE_REFUSED_PART: return "the part does not have the kind's size";
     case GBASAVE_REFUSED_TALLY_COUNT: return "the tallies are not as many as the kind has";
+    case GBASAVE_REFUSED_STATE_LAYOUT: return "the chip state's layout number is not 2";
+    case GBASAVE_REFUSED_STATE_FLAG: return "the chip state's changed flag is neither 0 nor 1";
     default: return "no call returns this number";
     }
 }
@@ -338,6 +372,10 @@ typedef struct gbasave_record {
 #define GBASAVE_RECORD_FLAG 5
 #define GBASAVE_RECORD_CHIP 6
 #define GBASAVE_RECORD_PART 24
+
+/* Offsets of the state's bytes after the chip record. */
+#define GBASAVE_STATE_FLAG 18
+#define GBASAVE_STATE_LAYOUT 19
 
 /* A matcher. The struct gives it a type of its own; the calls take a pointer to the 13 bytes. */
 typedef struct gbasave_matcher {
@@ -654,8 +692,8 @@ uint32_t gbasave_load_save(gbasave_record *record, uint8_t *memory, size_t memor
 
 /*
  * Reads the changed flag and clears it. The flag is 1 if a write has stored anything since the flag was last taken,
- * even what was there already. Byte writes to an EEPROM kind, loads, imports and restores do not set it. The caller
- * sets it when it resumes a state.
+ * even what was there already. Byte writes to an EEPROM kind, loads, imports and restores of 18 bytes leave it as it
+ * was. A restore of 20 bytes sets it to the state's byte 18. The caller may set it too (see TO RESUME A STATE).
  *   Asks:    2
  *   Writes:  *flag, 0 or 1.
  *   Changes: record: flag 0.
@@ -685,26 +723,31 @@ uint32_t gbasave_first_in_use(const gbasave_record *record, const uint16_t *tall
 /* ---- States ------------------------------------------------------------------------------------------------------ */
 
 /*
- * Gets the chip record. Its bytes are:
+ * Gets the state of the chip, in layout 2: the chip record (bytes 0 to 17), the changed flag and the layout number. The
+ * flag keeps its value in the record. The bytes are:
  *     0      flash state, 0 to 2 or 4 to 8          7-8    block, 0 to 1,023, low byte first
  *     1      bank, 0 or 1                           9      read place, 0 to 67
  *     2      ID mode, 0 or 1                        10-17  bits collected so far, low byte first
- *     3      DMA width: 0 (not announced), 6 or 14
- *     4      large, 0 or 1
+ *     3      DMA width: 0 (not announced), 6 or 14  18     the changed flag, 0 or 1
+ *     4      large, 0 or 1                          19     the layout number, 2
  *     5      phase: 0 opcode, 1 address of a read, 2 address of a write, 3 data, 4 end of a read command, 5 end of a
  *            write, 6 reading
  *     6      count: below 2 in phase 0, below the address's length in 1 and 2, below 64 in 3, else 0
  * The address's length is the DMA width. If that is 0, it is 14 bits if large is 1, and 6 bits if not.
  *   Asks:    2
- *   Writes:  the 18 bytes at state.
+ *   Writes:  the 20 bytes at state.
  */
 uint32_t gbasave_chip_state(const gbasave_record *record, uint8_t state[GBASAVE_STATE_SIZE]);
 
 /*
- * Replaces the chip record in the record. The bytes may come from an untrusted source: any state that is accepted is
- * safe to go on with.
- *   Asks:    2, 6, 7, 8, 9, 10, 11, 12
- *   Changes: record: only the chip record. Image length, kind, flag and part keep their values.
+ * Replaces the chip record in the record, and with a state of 20 bytes the changed flag too. 20 bytes are layout 2, 18
+ * bytes are layout 1 (see LAYOUTS OF A STATE). The bytes may come from an untrusted source: any state that is accepted
+ * is safe to go on with.
+ *   Asks:    20 bytes: 2, 6, 17, 7, 8, 9, 10, 11, 12, 18
+ *            18 bytes: 2, 6, 7, 8, 9, 10, 11, 12
+ *            any other number of bytes: 2, 6
+ *   Changes: record: the chip record becomes the state's bytes 0 to 17. With 20 bytes the flag becomes byte 18; with 18
+ *            bytes it keeps its value. Image length, kind and part keep their values.
  */
 uint32_t gbasave_restore_chip_state(gbasave_record *record, const uint8_t *state, size_t state_length);
 

@@ -13,8 +13,8 @@
  *     03                            gbasave_eeprom_read                 status, the bit
  *     04  value (2)                 gbasave_eeprom_write                status
  *     05  words (2)                 gbasave_eeprom_begin_dma            status
- *     06                            gbasave_take_save_dirty             status; the flag itself is left out
- *     07                            gbasave_chip_state                  status, 18 bytes
+ *     06                            gbasave_take_save_dirty             status, the flag
+ *     07                            gbasave_chip_state                  status, 20 bytes
  *     08  length (4)  the file      gbasave_load_save                   status
  *     09  length (4)                gbasave_save_data, into a           status, the file's length (4), the destination
  *                                   destination of that many zeros
@@ -24,12 +24,12 @@
  *
  * A CUT takes a state and resumes it. Its steps are gbasave_save_data and gbasave_chip_state; then gbasave_from_bytes
  * with the same image and the same part, gbasave_load_save with the file, if there is one, and
- * gbasave_restore_chip_state. Only the file and the 18 bytes are kept; everything else that the call before the cut
- * left is lost.
+ * gbasave_restore_chip_state. Only the file and the 20 bytes are kept; everything else that the call before the cut
+ * left is lost. No item is a cut that keeps the 18 bytes of an old state.
  *
  * THE OUTPUT is the answers of the items, one after the other. A status is 0 or the number of a refusal. After a
  * refusal the values are 0. Two more answers follow, as if the list ended with these items: the answer of a 09 whose
- * length is that of the save memory, and the answer of a 07. They are the file and the chip record at the end.
+ * length is that of the save memory, and the answer of a 07. They are the file and the state at the end.
  *
  * WHAT RUNS. A replay does not run the calls of gbasave.h. It runs functions of the same repository that take a record
  * as a value and return it. Each does what the call of gbasave.h does that is named above: both have contracts over the
@@ -38,8 +38,9 @@
  * answer shows. A caller that goes on with the memory that it leaves counts them (see FOREIGN TALLIES in gbasave.h).
  *
  * IT IS PROVED that the output is the same as that of the list without its cuts, with every part, wherever the cuts are
- * and however many there are. About lists of the calls of gbasave.h themselves, with cuts made of them, the same is a
- * theorem about their contracts: see WHAT IS PROVED OF STATES in gbasave.h.
+ * and however many there are. Nothing is left out: 06 answers the flag, and each state has it. About lists of the calls
+ * of gbasave.h themselves, with cuts made of them, the same is a theorem about their contracts: see WHAT IS PROVED OF
+ * STATES in gbasave.h.
  */
 #ifndef GBASAVE_REPLAY_H
 #define GBASAVE_REPLAY_H
@@ -56,7 +57,7 @@ extern "C" {
 #define GBASAVE_REPLAY_NO_LIST 0xFF    /* the list has an unknown item, or it ends inside one */
 
 /* The size in bytes of the end of the output (the two answers after the list's own), for a save memory of n bytes. */
-#define GBASAVE_REPLAY_END(n) (24 + (size_t)(n))
+#define GBASAVE_REPLAY_END(n) (26 + (size_t)(n))
 
 /*
  * Opens the image with the part, plays the list, and writes its answers to the beginning of `out`. The part is a number

@@ -3,7 +3,7 @@
 
 use crate::call::Call;
 use crate::files;
-use crate::records::hex;
+use crate::records::{hex, Layout, STATE_FLAG, STATE_SIZE};
 use std::rc::Rc;
 
 #[derive(Clone)]
@@ -13,7 +13,8 @@ pub enum Item {
     Load(Rc<[u8]>),
     /// Into a destination of so many zeros.
     Export(u32),
-    Cut,
+    /// The replay's cuts are all of layout 2.
+    Cut(Layout),
 }
 
 /// Of a longer file a frame shows only the beginning.
@@ -25,7 +26,7 @@ impl Item {
     }
 
     pub fn is_cut(&self) -> bool {
-        matches!(self, Self::Cut)
+        matches!(self, Self::Cut(_))
     }
 
     pub fn is_byte_write(&self) -> bool {
@@ -40,24 +41,34 @@ impl Item {
                 list.extend_from_slice(file);
             }
             Self::Export(length) => tag_and_number(9, *length, list),
-            Self::Cut => list.push(10),
+            Self::Cut(_) => list.push(10),
         }
     }
 
     /// How many bytes the answer takes.
     pub fn room(&self) -> usize {
         match self {
-            Self::Call(Call::Read(_) | Call::BitOut) => 2,
-            Self::Call(Call::ChipState) => 19,
+            Self::Call(Call::Read(_) | Call::BitOut | Call::TakeFlag) => 2,
+            Self::Call(Call::ChipState) => 1 + STATE_SIZE,
             Self::Call(_) | Self::Load(_) => 1,
             Self::Export(length) => 5 + *length as usize,
-            Self::Cut => 0,
+            Self::Cut(_) => 0,
+        }
+    }
+
+    /// Where the answer has the flag.
+    fn flag_place(&self) -> Option<usize> {
+        match self {
+            Self::Call(Call::TakeFlag) => Some(1),
+            Self::Call(Call::ChipState) => Some(1 + STATE_FLAG),
+            _ => None,
         }
     }
 
     pub fn frame(&self) -> String {
         match self {
             Self::Load(file) if file.len() > SHOWN => format!("08{:08X}{}...", file.len(), hex(&file[..SHOWN])),
+            Self::Cut(Layout::One) => "0A, by 18 bytes".into(),
             _ => hex(&encoded(std::slice::from_ref(self))),
         }
     }
@@ -91,9 +102,25 @@ pub fn encoded(list: &[Item]) -> Vec<u8> {
     bytes
 }
 
-/// How many bytes a list's answers take, and behind them the file and the 18 bytes.
+/// What is answered behind a list: the file, from a destination as long as the memory, and the state.
+pub fn ending(memory: usize) -> [Item; 2] {
+    [Item::Export(memory as u32), Item::Call(Call::ChipState)]
+}
+
+/// How many bytes a list's answers take, and behind them the file and the state.
 pub fn room<'a>(list: impl IntoIterator<Item = &'a Item>, memory: usize) -> usize {
-    list.into_iter().map(Item::room).sum::<usize>() + 24 + memory
+    let end: usize = ending(memory).iter().map(Item::room).sum();
+    list.into_iter().map(Item::room).sum::<usize>() + end
+}
+
+/// Where these answers have the flag.
+pub fn flag_places(list: &[Item], memory: usize) -> Vec<usize> {
+    let (mut places, mut at) = (Vec::new(), 0);
+    for item in list.iter().chain(&ending(memory)) {
+        places.extend(item.flag_place().map(|place| at + place));
+        at += item.room();
+    }
+    places
 }
 
 /// The list that the bytes are, where they are one.
@@ -123,7 +150,7 @@ pub fn first_of(bytes: &[u8]) -> Option<(Item, usize)> {
             (Item::Load(bytes.get(5..end)?.into()), end)
         }
         9 => (Item::Export(number(4)?), 5),
-        10 => (Item::Cut, 1),
+        10 => (Item::Cut(Layout::Two), 1),
         _ => return None,
     })
 }

@@ -1,8 +1,9 @@
 //! What the original answers to a list, as bytes.
 
 use crate::call::Call;
-use crate::items::Item;
+use crate::items::{ending, Item};
 use crate::original::{self, Cartridge};
+use crate::records::state;
 
 /// A refusal number or 0, and the bytes that stand behind it.
 pub struct Answer {
@@ -33,21 +34,21 @@ impl Item {
                 bytes[4..4 + file.len()].copy_from_slice(&file);
                 answer(0, bytes)
             }
-            Self::Cut => None,
+            Self::Cut(_) => None,
         }
     }
 }
 
-/// The answer to `take_save_dirty` is left out: a cut loses the flag.
+/// The original's states have 18 bytes; its flag stands apart.
 fn answer_of(call: &Call, cart: &mut Cartridge) -> Vec<u8> {
     match (call, call.put(cart, &[])) {
-        (Call::ChipState, _) => original::chip_state(cart).to_vec(),
-        (Call::Read(_) | Call::BitOut, Ok(Some(value))) => vec![value as u8],
+        (Call::ChipState, _) => state(&original::chip_state(cart), cart.flag()).to_vec(),
+        (_, Ok(Some(value))) => vec![value as u8],
         _ => Vec::new(),
     }
 }
 
-/// A list's answers, behind them the file and the 18 bytes at its end, and the save memory that it leaves.
+/// A list's answers, behind them the file and the state at its end, and the save memory that it leaves.
 pub struct Played {
     pub answers: Vec<u8>,
     pub memory: Vec<u8>,
@@ -63,14 +64,10 @@ pub fn play(image: &[u8], list: &[Item], at_cut: fn(&[u8], Cartridge) -> Cartrid
             None => cart = at_cut(image, cart),
         }
     }
-    ending(&mut cart).into_iter().for_each(|answer| put(answer, &mut answers));
+    for item in ending(cart.memory().len()) {
+        put(item.answer(&mut cart).expect("no cut"), &mut answers);
+    }
     Played { answers, memory: cart.memory().to_vec() }
-}
-
-/// The file, from a destination as long as the memory, and the 18 bytes.
-fn ending(cart: &mut Cartridge) -> [Answer; 2] {
-    let length = cart.memory().len() as u32;
-    [Item::Export(length), Item::Call(Call::ChipState)].map(|item| item.answer(cart).expect("no cut"))
 }
 
 fn put(answer: Answer, answers: &mut Vec<u8>) {
@@ -82,13 +79,25 @@ pub fn uncut(image: &[u8], list: &[Item]) -> Played {
     play(image, list, |_, cart| cart)
 }
 
-/// A wrong cut, to see that it is found: the 18 bytes are not restored.
+/// A wrong cut, to see that it is found: the state is not restored.
 pub fn cut_without_restore(image: &[u8], list: &[Item]) -> Played {
+    play(image, list, |image, cart| loaded(image, &cart))
+}
+
+/// Another one: only the chip record is restored, and the flag is lost.
+pub fn cut_without_flag(image: &[u8], list: &[Item]) -> Played {
     play(image, list, |image, cart| {
-        let mut fresh = original::open(image).expect("an image of an allowed length");
-        if let Some(file) = original::save_data(&cart) {
-            original::load_save(&mut fresh, &file);
-        }
+        let mut fresh = loaded(image, &cart);
+        original::restore(&mut fresh, &original::chip_state(&cart)).expect("a state that was taken");
         fresh
     })
+}
+
+/// A fresh cartridge with the file of another one.
+fn loaded(image: &[u8], cart: &Cartridge) -> Cartridge {
+    let mut fresh = original::open(image).expect("an image of an allowed length");
+    if let Some(file) = original::save_data(cart) {
+        original::load_save(&mut fresh, &file);
+    }
+    fresh
 }

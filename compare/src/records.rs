@@ -1,8 +1,37 @@
-//! Chip records: their fields, the values around each field's limits, and records that restore accepts.
+//! Chip records: their fields, the values around each field's limits, and records that restore accepts; and states, which carry one.
 
 use crate::random::Random;
 
-pub type Chip = [u8; 18];
+pub const CHIP_SIZE: usize = 18;
+pub type Chip = [u8; CHIP_SIZE];
+
+/// A state of layout 2: the chip record, the changed flag, and the layout number.
+pub const STATE_SIZE: usize = 20;
+pub type State = [u8; STATE_SIZE];
+pub const STATE_FLAG: usize = 18;
+
+pub fn state(chip: &Chip, flag: bool) -> State {
+    let mut state = [0; STATE_SIZE];
+    state[..CHIP_SIZE].copy_from_slice(chip);
+    state[CHIP_SIZE..].copy_from_slice(&[u8::from(flag), 2]);
+    state
+}
+
+/// What of a state is restored: the 18 bytes of layout 1, or all 20.
+#[derive(Clone, Copy, PartialEq)]
+pub enum Layout {
+    One,
+    Two,
+}
+
+impl Layout {
+    pub fn of(self, state: &State) -> &[u8] {
+        match self {
+            Self::One => &state[..CHIP_SIZE],
+            Self::Two => state,
+        }
+    }
+}
 
 pub fn hex(bytes: &[u8]) -> String {
     bytes.iter().map(|byte| format!("{byte:02X}")).collect()

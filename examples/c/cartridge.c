@@ -54,6 +54,11 @@ bool cartridge_take_changed(cartridge *cart)
     return flag == 1;
 }
 
+bool cartridge_changed(const cartridge *cart)
+{
+    return cart->record.bytes[GBASAVE_RECORD_FLAG] == 1;
+}
+
 uint32_t cartridge_load(cartridge *cart, const uint8_t *file, size_t length)
 {
     uint32_t changed;
@@ -79,6 +84,7 @@ saved_state take_state(const cartridge *cart)
     state.file = allocate(cart->length);
     accepted("export", gbasave_save_data(&cart->record, cart->memory, cart->length, state.file, cart->length, &state.length));
     accepted("chip state", gbasave_chip_state(&cart->record, state.chip));
+    state.chip_length = sizeof state.chip;
     return state;
 }
 
@@ -93,20 +99,25 @@ static bool same_cartridge(const identity *a, const identity *b)
     return a->kind == b->kind && a->image_length == b->image_length && a->image_crc == b->image_crc;
 }
 
-uint32_t cartridge_resume(cartridge *cart, const saved_state *state, uint32_t *changed)
+static uint32_t restore(cartridge *cart, const saved_state *state)
+{
+    return gbasave_restore_chip_state(&cart->record, state->chip, state->chip_length);
+}
+
+uint32_t cartridge_resume(cartridge *cart, const saved_state *state, save_file written_out, uint32_t *changed)
 {
     if (!same_cartridge(&cart->id, &state->id))
         return OTHER_CARTRIDGE;
     if (cart->id.part != state->id.part)
         return OTHER_PART;
     /* Before the load, so that a refused state changes nothing; after it, since the load may have made the chip large. */
-    uint32_t answer = gbasave_restore_chip_state(&cart->record, state->chip, sizeof state->chip);
+    uint32_t answer = restore(cart, state);
     if (answer != GBASAVE_ACCEPTED)
         return answer;
-    *changed = 0;
-    if (state->length > 0) {
-        *changed = cartridge_load(cart, state->file, state->length);
+    *changed = state->length > 0 ? cartridge_load(cart, state->file, state->length) : 0;
+    accepted("the same state again", restore(cart, state));
+    /* After the restore, which replaces the flag. A state of 18 bytes has no flag. */
+    if (state->length > 0 && (state->chip_length == GBASAVE_CHIP_SIZE || written_out == SAVE_FILE_MAY_BE_OTHER))
         cart->record.bytes[GBASAVE_RECORD_FLAG] = 1;
-    }
-    return gbasave_restore_chip_state(&cart->record, state->chip, sizeof state->chip);
+    return GBASAVE_ACCEPTED;
 }

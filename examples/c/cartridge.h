@@ -26,9 +26,16 @@ typedef struct cartridge {
 typedef struct saved_state {
     identity id;
     uint8_t chip[GBASAVE_STATE_SIZE];
+    size_t chip_length; /* GBASAVE_STATE_SIZE, or GBASAVE_CHIP_SIZE in a state that an older host took */
     uint8_t *file;
     uint32_t length; /* of the file; 0 if the kind has none */
 } saved_state;
+
+/* What a host knows about the save file that it has written out, when it resumes a state. */
+typedef enum save_file {
+    SAVE_FILE_AS_IT_WAS,   /* it is the one of the moment when the state was taken */
+    SAVE_FILE_MAY_BE_OTHER /* it may be another one: a later one, or another player's */
+} save_file;
 
 /* Returned by cartridge_resume, beside the numbers of gbasave.h. */
 enum {
@@ -49,6 +56,9 @@ void cartridge_close(cartridge *cart);
 /* Returns whether the file has to be written out, and clears the changed flag. */
 bool cartridge_take_changed(cartridge *cart);
 
+/* Returns the changed flag, and leaves it. */
+bool cartridge_changed(const cartridge *cart);
+
 /* Loads a file of any length. Returns how many bytes of the memory have changed. */
 uint32_t cartridge_load(cartridge *cart, const uint8_t *file, size_t length);
 
@@ -59,10 +69,11 @@ saved_state take_state(const cartridge *cart);
 void drop_state(saved_state *state);
 
 /*
- * Resumes a state in an open cartridge of the same image and part, whatever was played on it. The file then counts as
- * changed; *changed is how many bytes of the memory have changed. Returns 0, the number of a refusal, OTHER_CARTRIDGE or
- * OTHER_PART. If it is not 0, the cartridge and *changed are unchanged.
+ * Resumes a state in an open cartridge of the same image and part, whatever was played on it. The changed flag comes with
+ * the state. If it cannot, or if the save file may be another one, the file counts as changed. *changed is how many bytes
+ * of the memory have changed. Returns 0, the number of a refusal, OTHER_CARTRIDGE or OTHER_PART. If it is not 0, the
+ * cartridge and *changed are unchanged.
  */
-uint32_t cartridge_resume(cartridge *cart, const saved_state *state, uint32_t *changed);
+uint32_t cartridge_resume(cartridge *cart, const saved_state *state, save_file written_out, uint32_t *changed);
 
 #endif

@@ -1,8 +1,9 @@
 /*
  * A small host. It opens images, saves on every chip, takes states in the middle of an 81-bit write and resumes them in a
- * fresh cartridge and in the open one. It gives a game the flash chip that the game looks for. It writes the file out when
- * enough bytes have changed. It shows in a save menu which cartridges are empty. It finds the kind of images that it reads
- * in blocks. It checks every answer; a wrong one ends the program with status 1.
+ * fresh cartridge and in the open one. It writes the file out if the changed flag says so, which comes with a state. It
+ * gives a game the flash chip that the game looks for. It writes the file out when enough bytes have changed. It shows in a
+ * save menu which cartridges are empty. It finds the kind of images that it reads in blocks. It checks every answer; a wrong
+ * one ends the program with status 1.
  *
  *     host           runs the examples below, on images that the program makes
  *     host IMAGE     prints what is found in an image file
@@ -161,8 +162,11 @@ static saved_state played(const uint8_t *image, int cut, where resumed, bool sho
             accepted("DMA", gbasave_eeprom_begin_dma(&cart.record, WRITE_BITS));
             eeprom_send(&cart, bits, WRITE_BITS);
         }
-        accepted("resuming", cartridge_resume(&cart, &state, &by_resuming));
+        accepted("resuming", cartridge_resume(&cart, &state, SAVE_FILE_AS_IT_WAS, &by_resuming));
+        saved_state again = take_state(&cart);
+        same_states(&state, &again);
         drop_state(&state);
+        drop_state(&again);
     }
     changed += eeprom_send(&cart, bits + sent, WRITE_BITS - sent);
     expect("the write changes the block's eight bytes, cut or uncut", changed == 8);
@@ -196,7 +200,7 @@ static void eeprom_story(void)
             drop_state(&resumed);
         }
     }
-    printf("  cut after the DMA length and after each of the 81 bits: the same blocks, file and chip,\n");
+    printf("  cut after the DMA length and after each of the 81 bits: the same blocks, file, chip and flag,\n");
     printf("  resumed in a fresh cartridge or in the open one\n");
     drop_state(&uncut);
     free(image);

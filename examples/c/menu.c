@@ -124,11 +124,11 @@ static void state_lines(void)
     saved_state state = take_state(&cart);
     flash_program(&cart, 0x0E000000, 0x5A);
     right("flash, played on", &cart, 0);
-    accepted("resuming", cartridge_resume(&cart, &state, &changed));
+    accepted("resuming", cartridge_resume(&cart, &state, SAVE_FILE_AS_IT_WAS, &changed));
     right("flash, a state resumed", &cart, 10);
     cartridge_close(&cart);
     cart = opened("FLASH_V");
-    accepted("resuming", cartridge_resume(&cart, &state, &changed));
+    accepted("resuming", cartridge_resume(&cart, &state, SAVE_FILE_AS_IT_WAS, &changed));
     right("the same, opened again", &cart, 10);
     drop_state(&state);
     cartridge_close(&cart);
@@ -170,7 +170,7 @@ static void lost(void)
     saved_state state = take_state(&cart);
     cartridge_close(&cart);
     cart = opened("SRAM_V");
-    accepted("resuming", cartridge_resume(&cart, &state, &changed));
+    accepted("resuming", cartridge_resume(&cart, &state, SAVE_FILE_AS_IT_WAS, &changed));
     right("opened and loaded again", &cart, 5);
     drop_state(&state);
     cartridge_close(&cart);

@@ -61,7 +61,7 @@ static void resume(const uint8_t *image, const picky_game *game, const saved_sta
     cartridge cart;
     uint32_t changed;
     accepted("opening", cartridge_open(&cart, image, IMAGE_LENGTH, state->id.part));
-    accepted("resuming", cartridge_resume(&cart, state, &changed));
+    accepted("resuming", cartridge_resume(&cart, state, SAVE_FILE_AS_IT_WAS, &changed));
     const uint32_t found = read_id_word(&cart);
     expect("it is in ID mode, and the chip is the same", found == game->word);
     flash_id_mode(&cart, 0);

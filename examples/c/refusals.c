@@ -101,18 +101,74 @@ static void byte_refused(void)
     close_pair(&p);
 }
 
-static void state_refused(pair *p, uint32_t number, const char *what, size_t place, uint8_t value)
+/* The bytes of a state, and one more. */
+typedef struct state_bytes {
+    uint8_t bytes[GBASAVE_STATE_SIZE + 1];
+} state_bytes;
+
+/* The cartridge's own state. */
+static state_bytes state_of(const cartridge *cart)
 {
-    uint8_t state[GBASAVE_STATE_SIZE];
-    accepted("chip state", gbasave_chip_state(&p->cart.record, state));
-    state[place] = value;
-    refused(p, number, what, gbasave_restore_chip_state(&p->cart.record, state, sizeof state));
+    state_bytes state = {{0}};
+    accepted("chip state", gbasave_chip_state(&cart->record, state.bytes));
+    return state;
+}
+
+static state_bytes with(state_bytes state, size_t place, uint8_t value)
+{
+    state.bytes[place] = value;
+    return state;
+}
+
+static void state_refused(pair *p, uint32_t number, const char *what, state_bytes state)
+{
+    refused(p, number, what, gbasave_restore_chip_state(&p->cart.record, state.bytes, GBASAVE_STATE_SIZE));
+}
+
+/* A state with a fault in its chip record. So is the old one of 18 bytes. */
+static void chip_refused(pair *p, uint32_t number, const char *what, size_t place, uint8_t value)
+{
+    const state_bytes state = with(state_of(&p->cart), place, value);
+    state_refused(p, number, what, state);
+    expect(what, gbasave_restore_chip_state(&p->cart.record, state.bytes, GBASAVE_CHIP_SIZE) == number);
+    unchanged(what, p);
+}
+
+/* In the order of the questions. */
+static void states_refused(pair *p)
+{
+    const state_bytes state = state_of(&p->cart);
+    static const size_t wrong_lengths[] = {0, 17, 19, 21};
+    for (size_t i = 0; i < sizeof wrong_lengths / sizeof *wrong_lengths; i++) {
+        char what[32];
+        snprintf(what, sizeof what, "a state of %zu bytes", wrong_lengths[i]);
+        refused(p, GBASAVE_REFUSED_STATE_LENGTH, what,
+                gbasave_restore_chip_state(&p->cart.record, state.bytes, wrong_lengths[i]));
+    }
+    state_refused(p, GBASAVE_REFUSED_STATE_LAYOUT, "a state with layout number 3", with(state, GBASAVE_STATE_LAYOUT, 3));
+    state_refused(p, GBASAVE_REFUSED_STATE_LAYOUT, "layout number 3, and phase 7",
+                  with(with(state, GBASAVE_STATE_LAYOUT, 3), 5, 7));
+    chip_refused(p, GBASAVE_REFUSED_STATE_PHASE, "a state in phase 7", 5, 7);
+    chip_refused(p, GBASAVE_REFUSED_STATE_FLASH, "a state with flash state 3", 0, 3);
+    chip_refused(p, GBASAVE_REFUSED_STATE_SWITCHES, "a state with bank 2", 1, 2);
+    chip_refused(p, GBASAVE_REFUSED_STATE_WIDTH, "a state with DMA width 7", 3, 7);
+    chip_refused(p, GBASAVE_REFUSED_STATE_RANGES, "a state with read place 68", 9, 68);
+    chip_refused(p, GBASAVE_REFUSED_STATE_COUNT, "a state with 14 bits of a 14-bit address", 6, 14);
+    state_refused(p, GBASAVE_REFUSED_STATE_COUNT, "14 bits of a 14-bit address, and flag 2",
+                  with(with(state, 6, 14), GBASAVE_STATE_FLAG, 2));
+    /* Its chip record is allowed, and another than the cartridge's: it is not taken over. */
+    state_refused(p, GBASAVE_REFUSED_STATE_FLAG, "a state with changed flag 2", with(with(state, 1, 1), GBASAVE_STATE_FLAG, 2));
+
+    /* An old state has no layout number and no flag: what follows its 18 bytes does not count. */
+    const state_bytes old = with(with(state, GBASAVE_STATE_LAYOUT, 3), GBASAVE_STATE_FLAG, 2);
+    accepted("18 bytes", gbasave_restore_chip_state(&p->cart.record, old.bytes, GBASAVE_CHIP_SIZE));
+    unchanged("18 bytes of its own state", p);
 }
 
 static void serial_refused(void)
 {
     pair p = open_pair("EEPROM REFUS", "EEPROM_V");
-    uint8_t bits[WRITE_BITS], state[GBASAVE_STATE_SIZE];
+    uint8_t bits[WRITE_BITS];
     eeprom_write_bits(bits, 100, 0);
     for (int twice = 0; twice < 2; twice++) {
         cartridge *cart = twice ? &p.before : &p.cart;
@@ -121,16 +177,7 @@ static void serial_refused(void)
     }
     refused(&p, GBASAVE_REFUSED_DMA_TOO_LATE, "DMA 73 after six bits of an address",
             gbasave_eeprom_begin_dma(&p.cart.record, 73));
-
-    accepted("chip state", gbasave_chip_state(&p.cart.record, state));
-    refused(&p, GBASAVE_REFUSED_STATE_LENGTH, "a state of 17 bytes",
-            gbasave_restore_chip_state(&p.cart.record, state, sizeof state - 1));
-    state_refused(&p, GBASAVE_REFUSED_STATE_PHASE, "a state in phase 7", 5, 7);
-    state_refused(&p, GBASAVE_REFUSED_STATE_FLASH, "a state with flash state 3", 0, 3);
-    state_refused(&p, GBASAVE_REFUSED_STATE_SWITCHES, "a state with bank 2", 1, 2);
-    state_refused(&p, GBASAVE_REFUSED_STATE_WIDTH, "a state with DMA width 7", 3, 7);
-    state_refused(&p, GBASAVE_REFUSED_STATE_RANGES, "a state with read place 68", 9, 68);
-    state_refused(&p, GBASAVE_REFUSED_STATE_COUNT, "a state with 14 bits of a 14-bit address", 6, 14);
+    states_refused(&p);
     close_pair(&p);
 }
 

@@ -119,12 +119,14 @@ static void no_piece_and_no_header()
     std::puts("an empty piece of an image: the matcher goes on from where it was; an empty header: refused, 1");
 }
 
-// The end of a replay is the file's status and length, and the state with its status: of a fresh kind NONE all 0.
+// The end of a replay is the file's status and length, and the state with its status: of a fresh kind NONE all 0, except for
+// the layout number, the last byte.
 static void no_list()
 {
     const bytes image = image_with("");
-    bytes nothing, out(5 + 1 + GBASAVE_STATE_SIZE, 0x5A);
+    bytes nothing, out(GBASAVE_REPLAY_END(0), 0x5A), end(out.size());
     const bytes as_it_was = out;
+    end.back() = 2;
     const auto replay = [&](const bytes &of, std::uint32_t part, bytes &to) {
         return gbasave_replay(of.data(), of.size(), part, nothing.data(), 0, nothing.data(), 0, nothing.data(), 0, to.data(),
                               to.size());
@@ -134,7 +136,7 @@ static void no_list()
     expect("replay, empty output", replay(image, GBASAVE_PART_USUAL, nothing) == GBASAVE_REFUSED_DESTINATION_LENGTH);
     expect("a refused replay writes nothing", out == as_it_was);
     expect("replay", replay(image, GBASAVE_PART_USUAL, out) == 0);
-    expect("the end alone", out == bytes(out.size(), 0));
+    expect("the end alone", out == end);
     std::puts("a replay of an empty list, with an empty memory and scratch: writes the end alone");
 }
 

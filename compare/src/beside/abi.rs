@@ -1,15 +1,7 @@
 //! The part's calls as the archives have them; `compare/link` links those. Each answers 0 or a refusal number; a slice is a
 //! pointer and a length.
 
-/// The five calls that are passed tallies, as every part since version 0.6.0 has them.
-#[cfg(not(feature = "before_tallies"))]
-mod storing;
-/// The same for an earlier part, which has no tallies: the benchmark times one beside the part.
-#[cfg(feature = "before_tallies")]
-#[path = "abi/storing_before_tallies.rs"]
-mod storing;
-
-pub use storing::*;
+use compare::records::State;
 
 pub const RECORD_SIZE: usize = 25;
 pub type Record = [u8; RECORD_SIZE];
@@ -17,7 +9,8 @@ pub type Record = [u8; RECORD_SIZE];
 pub const MATCHER_SIZE: usize = 13;
 pub type Matcher = [u8; MATCHER_SIZE];
 
-/// The chip record's place in the record, and the part's. (A part is a maker's flash chip here.)
+/// The places of the flag, of the chip record and of the part in the record. (A part is a maker's flash chip here.)
+pub const FLAG: usize = 5;
 pub const CHIP: std::ops::Range<usize> = 6..24;
 pub const PART: usize = 24;
 
@@ -29,6 +22,56 @@ pub const USUAL_PART: u32 = 0;
 pub const MACRONIX_128K: u32 = 5;
 
 extern "C" {
+    pub fn gbasave_from_bytes(
+        record: &mut Record,
+        image: *const u8,
+        image_len: usize,
+        part: u32,
+        memory: *mut u8,
+        memory_len: usize,
+        tallies: *mut u16,
+        tally_count: usize,
+    ) -> u32;
+    pub fn gbasave_save_write(
+        record: &mut Record,
+        memory: *mut u8,
+        memory_len: usize,
+        tallies: *mut u16,
+        tally_count: usize,
+        address: u32,
+        value: u8,
+        changed: &mut u32,
+    ) -> u32;
+    pub fn gbasave_eeprom_write(
+        record: &mut Record,
+        memory: *mut u8,
+        memory_len: usize,
+        tallies: *mut u16,
+        tally_count: usize,
+        value: u16,
+        changed: &mut u32,
+    ) -> u32;
+    pub fn gbasave_load_save(
+        record: &mut Record,
+        memory: *mut u8,
+        memory_len: usize,
+        tallies: *mut u16,
+        tally_count: usize,
+        file: *const u8,
+        file_len: usize,
+        changed: &mut u32,
+    ) -> u32;
+    pub fn gbasave_import_save(
+        record: &mut Record,
+        memory: *mut u8,
+        memory_len: usize,
+        tallies: *mut u16,
+        tally_count: usize,
+        file: *const u8,
+        file_len: usize,
+        kept: &mut u32,
+        changed: &mut u32,
+    ) -> u32;
     pub fn gbasave_save_read(record: &Record, memory: *const u8, memory_len: usize, address: u32, value: &mut u32) -> u32;
     pub fn gbasave_eeprom_begin_dma(record: &mut Record, words: u32) -> u32;
     pub fn gbasave_eeprom_read(record: &mut Record, memory: *const u8, memory_len: usize, bit: &mut u32) -> u32;
@@ -40,8 +83,9 @@ extern "C" {
         destination_len: usize,
         length: &mut u32,
     ) -> u32;
-    pub fn gbasave_chip_state(record: &Record, bytes: &mut [u8; 18]) -> u32;
-    pub fn gbasave_restore_chip_state(record: &mut Record, bytes: *const u8, length: usize) -> u32;
+    /// A part of version 0.6.0, which the benchmark times, writes only the first 18 bytes.
+    pub fn gbasave_chip_state(record: &Record, state: &mut State) -> u32;
+    pub fn gbasave_restore_chip_state(record: &mut Record, state: *const u8, length: usize) -> u32;
     pub fn gbasave_take_save_dirty(record: &mut Record, flag: &mut u32) -> u32;
     pub fn gbasave_is_blank(record: &Record, tallies: *const u16, tally_count: usize, blank: &mut u32) -> u32;
     pub fn gbasave_first_in_use(record: &Record, tallies: *const u16, tally_count: usize, stretch: &mut u32) -> u32;

@@ -9,7 +9,6 @@ mod placed;
 mod stretches;
 pub mod table;
 
-use crate::part_image;
 use crate::side::Answer;
 use link::{Row, Times};
 use std::hint::black_box;
@@ -63,26 +62,11 @@ fn row(name: &str, units: u32, mut original: impl FnMut(), mut part: impl FnMut(
     }
 }
 
-/// Such a row of calls that came with a version. A part from before it comes to the row, and has no turns.
-fn row_since(version: u32, name: &str, units: u32, original: impl FnMut(), part: impl FnMut()) {
-    if part_image::version() >= version {
-        row(name, units, original, part);
-    } else {
-        long_row(name, 0, original, part);
-    }
-}
-
 /// A row of one piece of work, which takes longer than a round.
 fn long_row(name: &str, row_turns: u32, original: impl FnMut(), part: impl FnMut()) {
     if is_wanted(name) {
         turns(Row { name: name.into(), turns: row_turns }, 1, 1, 1, original, part);
     }
-}
-
-/// Such a row of calls that came with a version.
-fn long_row_since(version: u32, name: &str, original: impl FnMut(), part: impl FnMut()) {
-    let row_turns = if part_image::version() >= version { LONG_TURNS } else { 0 };
-    long_row(name, row_turns, original, part);
 }
 
 fn is_wanted(name: &str) -> bool {
@@ -122,7 +106,7 @@ fn answered(answer: Answer) -> u32 {
     answer.value
 }
 
-/// How many bytes a call changed that has to be accepted, as a host with a budget takes it. An earlier part of before that number leaves the place.
+/// How many bytes a call changed that has to be accepted, as a host with a budget takes it.
 fn stored(answer: Answer) -> u32 {
     answered(answer);
     answer.changed.unwrap_or_default()

@@ -1,5 +1,6 @@
-//! The original uncut beside the replay cut: the same list of calls, and for the replay cuts between them.
+//! The original uncut beside the replay cut and beside the part's own calls cut: the same list of calls, and cuts between them for these two.
 
+mod calls;
 mod places;
 mod random;
 mod refused;
@@ -10,6 +11,7 @@ use crate::run::Run;
 use compare::images::of_kind;
 use compare::items::Item;
 use compare::kind::{Kind, NAMES};
+use compare::records::Layout;
 use replay::Replay;
 
 pub fn compare(run: &mut Run, kind: Kind) {
@@ -27,8 +29,13 @@ pub fn compare(run: &mut Run, kind: Kind) {
 fn with_cuts(list: &[Item], mut cuts: impl FnMut(usize) -> usize) -> Vec<Item> {
     let mut cut = Vec::with_capacity(2 * list.len());
     for place in 0..=list.len() {
-        cut.extend(std::iter::repeat(Item::Cut).take(cuts(place)));
+        cut.extend(std::iter::repeat(Item::Cut(Layout::Two)).take(cuts(place)));
         cut.extend(list.get(place).cloned());
     }
     cut
+}
+
+/// The list with other layouts of its cuts.
+fn with_layouts(list: &[Item], mut layout: impl FnMut() -> Layout) -> Vec<Item> {
+    list.iter().map(|item| if item.is_cut() { Item::Cut(layout()) } else { item.clone() }).collect()
 }

@@ -19,7 +19,7 @@ use compare::kind;
 use pair::Pair;
 use run::{Fault, Run};
 
-const USAGE: &str = "usage: beside [--seed HEX] [--fault rust | part | replay | count | pieces | handed | tallies | stretches]
+const USAGE: &str = "usage: beside [--seed HEX] [--fault rust | part | replay | count | pieces | handed | tallies | stretches | flag | lost | old]
        beside bench WORDS LINK... [--before LINK...]
        beside rows WORDS";
 
@@ -40,7 +40,9 @@ fn beside(mut run: Run) {
     println!("beside: seed {:X}", run.seed);
     if !run.fault.is_of_searches() {
         for kind in kind::ALL {
-            cartridges(&mut run, kind);
+            if !run.fault.is_of_cuts() {
+                cartridges(&mut run, kind);
+            }
             cuts::compare(&mut run, kind);
         }
     }
@@ -62,6 +64,9 @@ fn arguments(words: &[&str]) -> Run {
             ["--fault", "handed"] => fault = Fault::Handed,
             ["--fault", "tallies"] => fault = Fault::Tallies,
             ["--fault", "stretches"] => fault = Fault::Stretches,
+            ["--fault", "flag"] => fault = Fault::Flag,
+            ["--fault", "lost"] => fault = Fault::LostFlag,
+            ["--fault", "old"] => fault = Fault::Old,
             _ => usage(),
         }
     }

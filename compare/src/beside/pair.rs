@@ -1,8 +1,9 @@
-//! A cartridge on both sides. After every call answer, chip record, flag, save memory and exported file are compared. The original does not
+//! A cartridge on both sides. After every call answer, chip record, flag, save memory and exported file are compared. The original's states have no
+//! flag and no layout number: those bytes of the part's are compared with the flag in the record and with 2. The original does not
 //! tell how many bytes a call changed, and has no tallies: after every call that stores, its memory is compared with a copy from before, byte by byte, and
 //! what has changed is counted.
 
-use crate::abi::{CHIP, NONE_IN_USE, PART, USUAL_PART};
+use crate::abi::{CHIP, FLAG, NONE_IN_USE, PART, USUAL_PART};
 use crate::original::Original;
 use crate::part::Part;
 use crate::run::{Fault, Run};
@@ -12,7 +13,7 @@ use compare::call::Call;
 use compare::files;
 use compare::kind::{Kind, MEMORY, NAMES, SRAM};
 use compare::original as rust;
-use compare::records::{hex, Chip};
+use compare::records::{hex, state, Chip, State};
 
 const RECENT: usize = 12;
 /// Calls between two counts of all stretches.
@@ -170,8 +171,12 @@ impl<'a> Pair<'a> {
             return Some(format!("the original's flag is {}; the part's is {}", flags[0], flags[1]));
         }
         let record = self.part.record();
-        if record[..5] != self.identity || record[5] > 1 || record[CHIP] != chips[1] || u32::from(record[PART]) != USUAL_PART {
+        if record[..5] != self.identity || record[FLAG] > 1 || record[CHIP] != chips[1] || u32::from(record[PART]) != USUAL_PART
+        {
             return Some(format!("the part's record is {}", hex(record)));
+        }
+        if self.part.state() != self.state(&chips[1], flags[1]) {
+            return Some(format!("the part's state is {}, its record {}", hex(&self.part.state()), hex(record)));
         }
         if self.original.memory() != self.part.memory() {
             return Some(places("save memory", self.original.memory(), self.part.memory()));
@@ -185,6 +190,11 @@ impl<'a> Pair<'a> {
             (Some(original), Some(part)) => Some(places("exported file", original, part)),
             (original, _) => Some(format!("a file from the {} alone", if original.is_some() { "original" } else { "part" })),
         }
+    }
+
+    /// What the part's state has to be, or with the fault a wrong one.
+    fn state(&self, chip: &Chip, flag: bool) -> State {
+        state(chip, flag && self.run.fault != Fault::Flag)
     }
 
     /// The part's tallies, and its two answers from them, beside what is in the original's memory.

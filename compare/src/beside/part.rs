@@ -4,13 +4,15 @@ use crate::abi::*;
 use crate::side::{Answer, Side};
 use compare::call::Call;
 use compare::memory::STRETCH;
-use compare::records::Chip;
+use compare::records::{self, Chip, Layout, State, CHIP_SIZE, STATE_SIZE};
 
 pub struct Part {
     record: Record,
     memory: Vec<u8>,
     tallies: Vec<u16>,
     file: Vec<u8>,
+    /// The layout of the next restore that is put to both sides: they take turns.
+    layout: Layout,
 }
 
 /// In places before a call. No call answers it.
@@ -48,7 +50,7 @@ impl Part {
         let (from, size) = (image.as_ptr(), image.len());
         let (to, counts, count) = (memory.as_mut_ptr(), tallies.as_mut_ptr(), tallies.len());
         let refusal = unsafe { gbasave_from_bytes(&mut record, from, size, flash_part, to, length, counts, count) };
-        (Answer::refusal(refusal), Self { record, memory, tallies, file: vec![0; length] })
+        (Answer::refusal(refusal), Self { record, memory, tallies, file: vec![0; length], layout: Layout::One })
     }
 
     pub fn record(&self) -> &Record {
@@ -142,8 +144,26 @@ impl Part {
         answer(|flag| unsafe { gbasave_take_save_dirty(&mut self.record, flag) })
     }
 
-    pub fn restore(&mut self, chip: &Chip) -> Answer {
-        Answer::refusal(unsafe { gbasave_restore_chip_state(&mut self.record, chip.as_ptr(), chip.len()) })
+    pub fn chip_state_to(&self, state: &mut State) -> Answer {
+        Answer::refusal(unsafe { gbasave_chip_state(&self.record, state) })
+    }
+
+    /// The state, in a place that holds no byte of one before the call.
+    pub fn state(&self) -> State {
+        let mut state = [0xEE; STATE_SIZE];
+        self.chip_state_to(&mut state);
+        state
+    }
+
+    pub fn restore(&mut self, state: &[u8]) -> Answer {
+        Answer::refusal(unsafe { gbasave_restore_chip_state(&mut self.record, state.as_ptr(), state.len()) })
+    }
+
+    /// Restores a chip record as the original does, which leaves the flag: by the 18 bytes alone, or by 20 with the flag that is there.
+    fn restore_chip(&mut self, chip: &Chip) -> Answer {
+        let layout = self.layout;
+        self.layout = if layout == Layout::One { Layout::Two } else { Layout::One };
+        self.restore(layout.of(&records::state(chip, self.flag())))
     }
 
     pub fn uses_eeprom(&self) -> Answer {
@@ -165,7 +185,7 @@ impl Side for Part {
             Call::Dma(words) => self.eeprom_begin_dma(words),
             Call::TakeFlag => self.take_save_dirty(),
             Call::Load { .. } => self.load_save(file),
-            Call::Restore(chip) => self.restore(&chip),
+            Call::Restore(chip) => self.restore_chip(&chip),
             Call::ChipState | Call::Export => Answer::value(0),
         }
     }
@@ -175,13 +195,13 @@ impl Side for Part {
     }
 
     fn chip_state(&self) -> Chip {
-        let mut chip = [0xEE; 18];
-        unsafe { gbasave_chip_state(&self.record, &mut chip) };
+        let mut chip = [0; CHIP_SIZE];
+        chip.copy_from_slice(&self.state()[..CHIP_SIZE]);
         chip
     }
 
     fn flag(&self) -> bool {
-        self.record[5] != 0
+        self.record[FLAG] != 0
     }
 
     fn memory(&self) -> &[u8] {

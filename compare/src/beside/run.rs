@@ -22,12 +22,23 @@ pub enum Fault {
     Tallies,
     /// Stretches are numbered from 1.
     Stretches,
+    /// No state has the flag.
+    Flag,
+    /// The replay's cuts lose the flag.
+    LostFlag,
+    /// The flag is compared too where a cut carries 18 bytes.
+    Old,
 }
 
 impl Fault {
     /// Whether a search of an image has the fault. No cartridge has it then.
     pub fn is_of_searches(self) -> bool {
         matches!(self, Self::Pieces | Self::Handed)
+    }
+
+    /// Whether only cut runs have the fault.
+    pub fn is_of_cuts(self) -> bool {
+        matches!(self, Self::Replay | Self::LostFlag | Self::Old)
     }
 }
 

@@ -1,6 +1,7 @@
 //! Prints what `carttrace`, or `cuttrace`, has to print for each file that an argument names, as the original answers. The calls
 //! outside the domain get their refusal without it.
 
+use compare::call::Call;
 use compare::images;
 use compare::items::{first_of, room, Item};
 use compare::kind::{self, is_eeprom, Kind, MEMORY};
@@ -60,15 +61,22 @@ fn open(kind: Kind) -> Cartridge {
 
 fn carttrace(kind: Kind, lines: &[&[u8]]) -> String {
     let cart = &mut open(kind);
-    let answers: String = lines.iter().map(|line| call_answer(line, kind, cart) + "\n").collect();
+    let answers: String = lines.iter().map(|line| line_answer(line, kind, cart)).collect();
     "00\n".to_string() + &answers
 }
 
-fn call_answer(line: &[u8], kind: Kind, cart: &mut Cartridge) -> String {
-    let Some(Item::Call(call)) = item_of(line) else { return "FF".into() };
+fn line_answer(line: &[u8], kind: Kind, cart: &mut Cartridge) -> String {
+    match item_of(line) {
+        Some(Item::Call(call)) => call_answer(&call, kind, cart),
+        _ => "FF\n".into(),
+    }
+}
+
+/// What both programs print for a call.
+fn call_answer(call: &Call, kind: Kind, cart: &mut Cartridge) -> String {
     match call.refusal(kind, &original::chip_state(cart)) {
-        Some(number) => format!("{number:02X}"),
-        None => call.answer(cart),
+        Some(number) => format!("{number:02X}\n"),
+        None => call.answer(cart) + "\n",
     }
 }
 
@@ -82,18 +90,21 @@ fn cuttrace(kind: Kind, lines: &[&[u8]]) -> String {
         return "0D\n".into();
     }
     let cart = &mut open(kind);
-    let answers: String = items.iter().map(|item| item_answer(item.as_ref(), cart)).collect();
+    let answers: String = items.iter().map(|item| item_answer(item.as_ref(), kind, cart)).collect();
     let file = original::save_data(cart).unwrap_or_default();
     format!("00\n{answers}00{}\n00{}\n", hex(&file), hex(&original::chip_state(cart)))
 }
 
-/// A cut prints no line.
-fn item_answer(item: Option<&Item>, cart: &mut Cartridge) -> String {
-    let Some(item) = item else { return "FF\n".into() };
-    match item.answer(cart) {
-        None => String::new(),
-        Some(answer) if answer.refusal == 0 => format!("00{}\n", hex(&answer.bytes)),
-        Some(answer) => format!("{:02X}\n", answer.refusal),
+/// Loads and exports have lines of their own; a cut prints none.
+fn item_answer(item: Option<&Item>, kind: Kind, cart: &mut Cartridge) -> String {
+    match item {
+        None => "FF\n".into(),
+        Some(Item::Call(call)) => call_answer(call, kind, cart),
+        Some(item) => match item.answer(cart) {
+            None => String::new(),
+            Some(answer) if answer.refusal == 0 => format!("00{}\n", hex(&answer.bytes)),
+            Some(answer) => format!("{:02X}\n", answer.refusal),
+        },
     }
 }
 

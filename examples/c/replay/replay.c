@@ -1,6 +1,6 @@
 /*
  * Two lists: an EEPROM block is written by 81 bits and read back, and the ID word of a Macronix flash chip is read. Each is
- * played without a cut and with a cut after each call. The output is the same.
+ * played without a cut and with a cut after each call. The output is the same. The changed flag is part of it.
  */
 #include <gbasave.h>
 #include <gbasave_replay.h>
@@ -45,7 +45,7 @@ static void bits(list *l, uint64_t value, int count)
         halfword(l, 0x04, (unsigned)(value >> count & 1));
 }
 
-/* DMA 81 and the 81 bits; DMA 17 and the 17 bits; 68 reads. */
+/* DMA 81 and the 81 bits; DMA 17 and the 17 bits; 68 reads; the flag; the state. */
 static list write_and_read(int cut_after)
 {
     list l = {.length = 0, .items = 0, .cut_after = cut_after};
@@ -60,6 +60,8 @@ static list write_and_read(int cut_after)
     bits(&l, 0, 1);
     for (int i = 0; i < 68; i++)
         item(&l, 0x03, NULL, 0);
+    item(&l, 0x06, NULL, 0);
+    item(&l, 0x07, NULL, 0);
     return l;
 }
 
@@ -128,12 +130,12 @@ int main(void)
     static uint8_t uncut[OUT];
     list l = write_and_read(NOWHERE);
     played(&EEPROM, &l, uncut);
+    const uint8_t *reads = uncut + 1 + 81 + 1 + 17, *flag = reads + 2 * 68, *state = flag + 2;
     uint64_t data = 0;
-    for (int i = 4; i < 68; i++) {
-        size_t read = 1 + 81 + 1 + 17 + 2 * (size_t)i;
-        data = data << 1 | uncut[read + 1];
-    }
+    for (int i = 4; i < 68; i++)
+        data = data << 1 | reads[2 * i + 1];
     printf("read back: %08lX%08lX\n", (unsigned long)(data >> 32), (unsigned long)(data & 0xFFFFFFFF));
+    printf("the flag: %u; taken, in the state: %u\n", flag[1], state[1 + GBASAVE_STATE_FLAG]);
     cut_after_each(&EEPROM, uncut);
 
     l = read_id(NOWHERE);

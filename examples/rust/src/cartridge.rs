@@ -173,9 +173,9 @@ impl Cartridge {
         (stretch != NONE_IN_USE).then_some(stretch as usize)
     }
 
-    /// Returns the changed flag and clears it: whether a write has stored anything, even what was there already, or a state with a
-    /// file was resumed, since the last call. If so, write out the file. Byte writes to an EEPROM kind, loads and imports do not
-    /// set the flag.
+    /// Returns the changed flag and clears it: whether a write has stored anything, even what was there already, since the last
+    /// call. If so, write out the file. Byte writes to an EEPROM kind, loads and imports do not set the flag.
+    /// [`resume`](Self::resume) and [`restore_chip_state`](Self::restore_chip_state) say what they make of it.
     pub fn take_save_dirty(&mut self) -> bool {
         sound(value(|flag| unsafe { raw::gbasave_take_save_dirty(&mut self.record, flag) })) == 1
     }
@@ -185,15 +185,16 @@ impl Cartridge {
         self.record[RECORD_FLAG] = 1;
     }
 
-    /// Returns the chip record.
+    /// Returns the chip's state: the chip record, the changed flag at [`STATE_FLAG`](crate::STATE_FLAG), and the layout number 2.
     pub fn chip_state(&self) -> ChipState {
         let mut state = [0; STATE_SIZE];
         sound(accepted(unsafe { raw::gbasave_chip_state(&self.record, &mut state) }));
         state
     }
 
-    /// Replaces the chip record. The new one may come from an untrusted source. Refused: [`Refusal::StateLength`] to
-    /// [`Refusal::StateCount`].
+    /// Replaces the chip record and the changed flag by a state of 20 bytes, or only the chip record by the 18 bytes of an older
+    /// version. The state may come from an untrusted source. Refused: [`Refusal::StateLength`] to [`Refusal::StateCount`],
+    /// [`Refusal::StateLayout`], [`Refusal::StateFlag`].
     pub fn restore_chip_state(&mut self, state: &[u8]) -> Result<(), Refusal> {
         accepted(unsafe { raw::gbasave_restore_chip_state(&mut self.record, state.as_ptr(), state.len()) })
     }

@@ -6,7 +6,7 @@
 //! does not return a `Result`.
 //!
 //! ```
-//! use gbasave::{Cartridge, Kind};
+//! use gbasave::{Cartridge, Kind, SaveFile};
 //!
 //! let mut image = vec![0; 1024];
 //! image[512..518].copy_from_slice(b"SRAM_V");
@@ -16,9 +16,10 @@
 //! cart.save_write(0x0E00_0010, 0x5A);
 //! let state = cart.state();
 //!
-//! // Later, perhaps in another process. An open cartridge of the same image and part is resumed in the same way.
+//! // Later, perhaps in another process. An open cartridge of the same image and part is resumed in the same way. The host has
+//! // written out no file since: whether it has to comes with the state.
 //! let mut resumed = Cartridge::open(&image)?;
-//! resumed.resume(&state)?;
+//! resumed.resume(&state, SaveFile::AsItWas)?;
 //! assert_eq!(resumed.save_read(0x0E00_0010), 0x5A);
 //! if resumed.take_save_dirty() {
 //!     let file = resumed.save_data();
@@ -119,7 +120,7 @@ pub use image::{detect_save_type, header_checksum, read, read16, read32, rom_crc
 pub use kind::Kind;
 pub use matcher::Matcher;
 pub use part::Part;
-pub use raw::STRETCH_SIZE;
+pub use raw::{CHIP_SIZE, STATE_FLAG, STATE_LAYOUT, STATE_SIZE, STRETCH_SIZE};
 pub use refusal::Refusal;
-pub use state::{ChipState, Identity, NotResumed, State};
+pub use state::{ChipState, Identity, NotResumed, SaveFile, State};
 pub use version::{version, VERSION};

@@ -7,7 +7,10 @@ use std::ops::Range;
 
 pub const RECORD_SIZE: usize = 25;
 pub const MATCHER_SIZE: usize = 13;
-pub const STATE_SIZE: usize = 18;
+/// The size of a chip's state in bytes: the chip record, the changed flag, and the layout number 2.
+pub const STATE_SIZE: usize = 20;
+/// The size of the chip record in bytes, with which a state begins. The states of versions before 0.7.0 are the chip record alone.
+pub const CHIP_SIZE: usize = 18;
 pub const TITLE_SIZE: usize = 36;
 /// The size of a stretch of the save memory in bytes.
 pub const STRETCH_SIZE: usize = 4096;
@@ -22,6 +25,10 @@ pub const RECORD_KIND: usize = 4;
 pub const RECORD_FLAG: usize = 5;
 /// The offset of the part in the record.
 pub const RECORD_PART: usize = 24;
+/// The offset of the changed flag in a state.
+pub const STATE_FLAG: usize = 18;
+/// The offset of the layout number in a state.
+pub const STATE_LAYOUT: usize = 19;
 
 pub type Record = [u8; RECORD_SIZE];
 pub type Matcher = [u8; MATCHER_SIZE];
@@ -141,6 +148,9 @@ mod tests {
             ("RECORD_SIZE", RECORD_SIZE.to_string()),
             ("MATCHER_SIZE", MATCHER_SIZE.to_string()),
             ("STATE_SIZE", STATE_SIZE.to_string()),
+            ("CHIP_SIZE", CHIP_SIZE.to_string()),
+            ("STATE_FLAG", STATE_FLAG.to_string()),
+            ("STATE_LAYOUT", STATE_LAYOUT.to_string()),
             ("TITLE_SIZE", TITLE_SIZE.to_string()),
             ("STRETCH_SIZE", STRETCH_SIZE.to_string()),
             ("NONE_IN_USE", format!("{NONE_IN_USE:#X}")),

@@ -16,7 +16,7 @@ pub enum Refusal {
     NoEeprom,
     /// 6 or more bits of an address are in.
     DmaTooLate,
-    /// The state does not have 18 bytes.
+    /// The state has neither 18 nor 20 bytes.
     StateLength,
     /// The state's phase is not allowed.
     StatePhase,
@@ -38,11 +38,15 @@ pub enum Refusal {
     Part,
     /// The tallies are not as many as the kind has.
     TallyCount,
+    /// The state's layout number is not 2.
+    StateLayout,
+    /// The state's changed flag is neither 0 nor 1.
+    StateFlag,
 }
 
 impl Refusal {
     /// All refusals, in the order of their numbers.
-    pub const ALL: [Self; 16] = [
+    pub const ALL: [Self; 18] = [
         Self::ImageLength,
         Self::Record,
         Self::MemoryLength,
@@ -59,6 +63,8 @@ impl Refusal {
         Self::FileLength,
         Self::Part,
         Self::TallyCount,
+        Self::StateLayout,
+        Self::StateFlag,
     ];
 
     /// Returns the refusal's number in `gbasave.h`.
@@ -66,7 +72,7 @@ impl Refusal {
         self as u32
     }
 
-    /// Returns the refusal with this number, 1 to 16.
+    /// Returns the refusal with this number, 1 to 18.
     pub fn of(number: u32) -> Option<Self> {
         Self::ALL.into_iter().find(|refusal| refusal.number() == number)
     }
@@ -79,7 +85,7 @@ impl Refusal {
             Self::MemoryLength => "the save memory does not have its kind's length",
             Self::NoEeprom => "the cartridge has no EEPROM",
             Self::DmaTooLate => "the DMA length comes too late in an address",
-            Self::StateLength => "the chip state is not 18 bytes long",
+            Self::StateLength => "the chip state is neither 18 nor 20 bytes long",
             Self::StatePhase => "the chip state's phase is not allowed",
             Self::StateFlash => "the chip state's flash state is not allowed",
             Self::StateSwitches => "the chip state's bank, ID mode or large is neither 0 nor 1",
@@ -90,6 +96,8 @@ impl Refusal {
             Self::FileLength => "no file of this kind has this length",
             Self::Part => "the part does not have the kind's size",
             Self::TallyCount => "the tallies are not as many as the kind has",
+            Self::StateLayout => "the chip state's layout number is not 2",
+            Self::StateFlag => "the chip state's changed flag is neither 0 nor 1",
         }
     }
 }
@@ -129,6 +137,6 @@ mod tests {
                 format!("{refusal:?}").to_lowercase()
             );
         }
-        assert_eq!((Refusal::of(0), Refusal::of(17)), (None, None));
+        assert_eq!((Refusal::of(0), Refusal::of(19)), (None, None));
     }
 }

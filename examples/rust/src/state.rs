@@ -2,10 +2,10 @@
 
 use std::{error, fmt};
 
-use crate::raw::STATE_SIZE;
+use crate::raw::{CHIP_SIZE, STATE_SIZE};
 use crate::{Cartridge, Kind, Part, Refusal};
 
-/// The chip record.
+/// A chip's state: the chip record, the changed flag, and the layout number 2.
 pub type ChipState = [u8; STATE_SIZE];
 
 /// What tells one cartridge from another, and the part with which it is opened.
@@ -17,19 +17,28 @@ pub struct Identity {
     pub image_length: u32,
     /// The CRC-32/IEEE of the image.
     pub image_crc: u32,
-    /// The flash chip that the game finds. It is neither in the file nor in the chip record.
+    /// The flash chip that the game finds. It is neither in the file nor in the chip's state.
     pub part: Part,
 }
 
-/// All that is needed, in addition to the image, to resume a cartridge. It does not contain the changed flag.
+/// All that is needed, in addition to the image, to resume a cartridge.
 #[derive(Clone, Debug, PartialEq, Eq)]
 pub struct State {
     /// The cartridge that the state belongs to.
     pub cartridge: Identity,
     /// The save file, if the kind has one.
     pub file: Option<Vec<u8>>,
-    /// The chip record.
-    pub chip: ChipState,
+    /// The chip's state: a [`ChipState`], or the 18 bytes of a version before 0.7.0, which do not contain the changed flag.
+    pub chip: Vec<u8>,
+}
+
+/// What a host knows about the save file that it has written out, when it resumes a state.
+#[derive(Clone, Copy, Debug, PartialEq, Eq, Hash)]
+pub enum SaveFile {
+    /// It is the one of the moment when the state was taken.
+    AsItWas,
+    /// It may be another one: a later one, or another player's. A host that is not sure says this.
+    MayBeOther,
 }
 
 /// Why a state is not resumed.
@@ -39,20 +48,23 @@ pub enum NotResumed {
     OtherCartridge,
     /// The state was taken with another part. Open the cartridge with the state's part to resume it.
     OtherPart,
-    /// The archive refuses the chip record: [`Refusal::StatePhase`] to [`Refusal::StateCount`].
+    /// The archive refuses the chip's state, as [`Cartridge::restore_chip_state`] says.
     Refused(Refusal),
 }
 
 impl Cartridge {
     /// Takes a state.
     pub fn state(&self) -> State {
-        State { cartridge: self.identity(), file: self.save_data(), chip: self.chip_state() }
+        State { cartridge: self.identity(), file: self.save_data(), chip: self.chip_state().to_vec() }
     }
 
-    /// Resumes a state in this cartridge, whatever was played on it. The cartridge has to be opened with the state's part. If the
-    /// state has a file, it then counts as changed: the next [`take_save_dirty`](Self::take_save_dirty) returns true. Returns how
-    /// many bytes of the memory have changed. An error leaves the cartridge as it was.
-    pub fn resume(&mut self, state: &State) -> Result<usize, NotResumed> {
+    /// Resumes a state in this cartridge, whatever was played on it. The cartridge has to be opened with the state's part. Returns
+    /// how many bytes of the memory have changed. An error leaves the cartridge as it was.
+    ///
+    /// The changed flag comes with the state, and tells whether the file still has to be written out. If the state is of 18 bytes,
+    /// or if the host's save file may be another one than when the state was taken, the file counts as changed: the next
+    /// [`take_save_dirty`](Self::take_save_dirty) returns true.
+    pub fn resume(&mut self, state: &State, written_out: SaveFile) -> Result<usize, NotResumed> {
         let cartridge = self.identity();
         if state.cartridge != cartridge {
             let other_part = Identity { part: cartridge.part, ..state.cartridge } == cartridge;
@@ -60,12 +72,12 @@ impl Cartridge {
         }
         // Before the load, so that a refused state changes nothing; after it, since the load may have made the chip large.
         self.restore_chip_state(&state.chip)?;
-        let mut changed = 0;
-        if let Some(file) = &state.file {
-            changed = self.load_save(file);
+        let changed = state.file.as_ref().map_or(0, |file| self.load_save(file));
+        self.restore_chip_state(&state.chip)?;
+        // After the restore, which replaces the flag.
+        if state.file.is_some() && (state.chip.len() == CHIP_SIZE || written_out == SaveFile::MayBeOther) {
             self.set_save_dirty();
         }
-        self.restore_chip_state(&state.chip)?;
         Ok(changed)
     }
 }

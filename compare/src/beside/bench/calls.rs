@@ -4,13 +4,12 @@ use super::{answered, calls, row, stored, used, values, BATCH};
 use crate::abi::{MACRONIX_128K, USUAL_PART};
 use crate::part::Part;
 use crate::part_image;
-use crate::side::Side;
 use compare::call::Call;
 use compare::commands::{set_address, write_block};
 use compare::images::{image, of_kind};
 use compare::kind::{self, Kind, MEMORY};
 use compare::original::{self, Cartridge};
-use compare::records::{serial, with_acc, with_block, Chip};
+use compare::records::{serial, state, with_acc, with_block, Chip, Layout, STATE_SIZE};
 use std::hint::black_box;
 
 pub fn rows() {
@@ -161,14 +160,27 @@ fn blocks() {
     }
 }
 
+/// The first version with states of 20 bytes. An earlier part takes and writes 18.
+const LAYOUT_2_VERSION: u32 = 700;
+
+/// The original's states have 18 bytes.
 fn states() {
     let accepted = with_block(serial(14, 1, 3, 40), 100);
     let refused = serial(14, 1, 3, 64);
     let (mut cart, mut part) = open(kind::EEPROM512, accepted);
-    for (name, chip) in [("restore", accepted), ("restore, refused", refused)] {
-        calls(name, |_| used(original::restore(&mut cart, black_box(&chip))), |_| used(part.restore(black_box(&chip)).refusal));
+    let newest = if part_image::version() >= LAYOUT_2_VERSION { Layout::Two } else { Layout::One };
+    for (name, chip, layout) in [
+        ("restore, 18 bytes", accepted, Layout::One),
+        ("restore, 20 bytes", accepted, newest),
+        ("restore, 18 bytes, refused", refused, Layout::One),
+        ("restore, 20 bytes, refused", refused, newest),
+    ] {
+        let state = state(&chip, true);
+        let bytes = layout.of(&state);
+        calls(name, |_| used(original::restore(&mut cart, black_box(&chip))), |_| used(part.restore(black_box(bytes)).refusal));
     }
-    calls("chip state", |_| used(original::chip_state(&cart)), |_| used(part.chip_state()));
+    let mut place = [0; STATE_SIZE];
+    calls("chip state", |_| used(original::chip_state(&cart)), |_| used(answered(part.chip_state_to(black_box(&mut place)))));
     calls("take the flag", |_| used(original::take_save_dirty(&mut cart)), |_| used(answered(part.take_save_dirty())));
     calls("window start", |_| used(original::eeprom_window_start(&cart)), |_| used(answered(part.eeprom_window_start())));
 }

@@ -1,6 +1,6 @@
 //! Time per image: opening, kind and CRC.
 
-use super::{answered, is_wanted, long_row, long_row_since, row, used, FEW_TURNS, LONG_TURNS};
+use super::{answered, is_wanted, long_row, row, used, FEW_TURNS, LONG_TURNS};
 use crate::part::Part;
 use crate::part_image;
 use compare::images::{image, put, LARGEST, SMALLEST};
@@ -43,9 +43,6 @@ fn large() {
 /// Where a late marker stands in 32 MiB.
 const LATE: usize = LARGEST - 64;
 
-/// The first version with a matcher.
-const MATCHER_VERSION: u32 = 500;
-
 /// The kind by the matcher. The original has the whole image.
 fn in_pieces() {
     let rows = [512, 32_768].map(|length| (length, format!("kind in pieces of {length} bytes, 32 MiB, no marker")));
@@ -55,7 +52,7 @@ fn in_pieces() {
     let image = image(LARGEST, 7, 0, b"");
     for (length, row) in rows {
         let whole = || used(original::detect_save_type(&image));
-        long_row_since(MATCHER_VERSION, &row, whole, || used(kind_in_pieces(&image, length)));
+        long_row(&row, LONG_TURNS, whole, || used(kind_in_pieces(&image, length)));
     }
 }
 

@@ -8,7 +8,7 @@ use std::process::{exit, Child, ChildStdin, ChildStdout, Command, Stdio};
 #[derive(Clone, PartialEq)]
 pub struct Row {
     pub name: String,
-    /// How many turns it takes; 0 in a link whose part lacks the row's calls.
+    /// How many turns it takes.
     pub turns: u32,
 }
 
@@ -66,11 +66,6 @@ impl Link {
     /// The row that is ready; none at the end.
     pub fn row(&self) -> Option<&Row> {
         self.row.as_ref()
-    }
-
-    /// Whether its part has the calls of the row that is ready.
-    pub fn has_calls(&self) -> bool {
-        self.row().is_some_and(|row| row.turns > 0)
     }
 
     /// One more turn at the row, which has to be the one that is ready.

@@ -1,14 +1,12 @@
 //! Time of the two answers from the tallies.
 
-use super::{answered, row_since, used};
+use super::{answered, row, used};
 use crate::part::Part;
 use compare::images::of_kind;
 use compare::kind::{self, Kind, MEMORY};
 use compare::original;
 use std::hint::black_box;
 
-/// The first version with tallies.
-const TALLIES_VERSION: u32 = 600;
 const CALLS: u32 = 128;
 
 /// The original has no such calls: beside the part stands a reading of its whole memory, up to the first stretch in use.
@@ -22,15 +20,13 @@ pub fn rows() {
         let (cart, part) = loaded(kind, in_use);
         let is_blank = |part: &Part| used(answered(part.is_blank()));
         let first_in_use = |part: &Part| used(answered(part.first_in_use()));
-        row_since(
-            TALLIES_VERSION,
+        row(
             &format!("is it blank, {name}"),
             CALLS,
             || (0..CALLS).for_each(|_| used(original::is_blank(black_box(&cart)))),
             || (0..CALLS).for_each(|_| is_blank(black_box(&part))),
         );
-        row_since(
-            TALLIES_VERSION,
+        row(
             &format!("first stretch in use, {name}"),
             CALLS,
             || (0..CALLS).for_each(|_| used(original::first_in_use(black_box(&cart)))),

@@ -29,7 +29,7 @@ fn print_row(row: &Row, parts: &mut [Link], befores: &mut [Link]) {
         progress(&format!("{}, turn {turn} of {}", row.name, row.turns));
         for (link, part) in parts.iter_mut().enumerate() {
             part.time(row);
-            if let Some(before) = befores.get_mut(link).filter(|before| before.has_calls()) {
+            if let Some(before) = befores.get_mut(link) {
                 before.time(row);
             }
         }
@@ -47,15 +47,12 @@ fn cells(times: &[Times]) -> String {
     format!(" {} | {} | {:.2} | {least:.2} | {largest:.2} |", length(original), length(part), part / original)
 }
 
-/// The earlier part's median, and the part's ratio to it; hyphens if it lacks the row's calls.
+/// The earlier part's median, and the part's ratio to it.
 fn before_cells(part: &[Times], befores: &[Link]) -> String {
-    let before: Vec<Times> = befores.iter().filter(|link| link.has_calls()).map(Link::times).collect();
     if befores.is_empty() {
         return String::new();
     }
-    if before.is_empty() {
-        return " - | - |".into();
-    }
+    let before: Vec<Times> = befores.iter().map(Link::times).collect();
     let (part, before) = (median_part(part), median_part(&before));
     format!(" {} | {:.2} |", length(before), part / before)
 }

@@ -1,13 +1,14 @@
 //! Random lists, each with several cuts of its own.
 
 use super::replay::Replay;
-use super::with_cuts;
+use super::{with_cuts, with_layouts};
 use crate::random_lists::random_of;
 use compare::call::Call;
 use compare::items::Item;
 use compare::kind::{is_eeprom, Kind, EEPROM8K, MEMORY};
 use compare::lists;
 use compare::random::Random;
+use compare::records::Layout;
 
 /// Lists by kind.
 const LISTS: [u64; 6] = [500, 300, 150, 100, 1_000, 5];
@@ -27,7 +28,10 @@ pub fn compare(replay: &mut Replay) {
         let list = list(random, kind, length);
         let uncut = replay.uncut(&list);
         for density in densities {
-            replay.list(&with_random_cuts(&list, random, *density), &uncut);
+            let list = with_random_cuts(&list, random, *density);
+            replay.list(&list, &uncut);
+            replay.by_calls(&list, &uncut);
+            replay.by_calls(&with_layouts(&list, || random.pick(&[Layout::One, Layout::Two])), &uncut);
         }
     }
 }

@@ -10,6 +10,7 @@ use compare::images::{of_kind, LARGEST, SMALLEST};
 use compare::items::{encoded, list_of, room, Item};
 use compare::kind::{is_eeprom, Kind, EEPROM8K, FLASH128, FLASH64, MEMORY};
 use compare::random::Random;
+use compare::records::Layout;
 
 /// Tries by kind; opening the last kind's image takes long.
 const TRIES: [u64; 6] = [20_000, 8_000, 4_000, 2_000, 20_000, 8];
@@ -36,7 +37,8 @@ pub fn compare(replay: &mut Replay) {
 /// One of each item, its bytes cut off anywhere.
 fn cut_off(replay: &mut Replay, image: &[u8]) {
     let calls = [Call::Read(1), Call::BitOut, Call::BitIn(1), Call::Dma(9), Call::TakeFlag, Call::ChipState];
-    let list: Vec<Item> = calls.map(Item::Call).into_iter().chain([Item::Cut, Item::Export(3), Item::load(5, 1)]).collect();
+    let list: Vec<Item> =
+        calls.map(Item::Call).into_iter().chain([Item::Cut(Layout::Two), Item::Export(3), Item::load(5, 1)]).collect();
     let bytes = encoded(&list);
     let memory = replay.memory_length();
     for end in 0..bytes.len() {
@@ -81,8 +83,8 @@ fn lengths(random: &mut Random, replay: &Replay, bytes: &[u8]) -> Lengths {
     let right = replay.memory_length();
     let memory = if random.one_in(8) { random.pick(&[0, 1, right + 1, 0x2000, 0x8000, 0x1_0000]) } else { right };
     let scratch = if random.one_in(4) { random.pick(&[0, right.saturating_sub(1), right + 1]) } else { right };
-    let room = list_of(bytes).map_or(100, |list| room(&list, right));
-    let out = random.pick(&[0, 23 + right, room - 1, room - 1, room, room, room, room + 1]);
+    let (end, room) = (room(&[], right), list_of(bytes).map_or(100, |list| room(&list, right)));
+    let out = random.pick(&[0, end - 1, room - 1, room - 1, room, room, room, room + 1]);
     Lengths { memory, scratch, out: out.min(LONGEST) }
 }
 

@@ -1,10 +1,13 @@
-//! The replay's side of a list: what it is lent, what it leaves there, and the original's answers beside it.
+//! The replay's side of a list: what it is lent, what it leaves there, and the original's answers beside it. The part's own calls can have the list too.
 
+use super::calls::Cartridge;
 use crate::abi::{gbasave_replay, USUAL_PART};
 use crate::run::{Fault, Run};
-use compare::items::{encoded, Item};
+use compare::items::{encoded, flag_places, Item};
 use compare::kind::{Kind, MEMORY, NAMES};
-use compare::played::{cut_without_restore, uncut, Played};
+use compare::memory::tallies;
+use compare::played::{cut_without_flag, cut_without_restore, uncut, Played};
+use compare::records::Layout;
 use std::time::{Duration, Instant};
 
 /// Scratch and output have fewer bytes than this that no answer needs, or none.
@@ -22,6 +25,13 @@ pub struct Lengths {
     pub memory: usize,
     pub scratch: usize,
     pub out: usize,
+}
+
+/// Who has the list with its cuts.
+#[derive(Clone, Copy)]
+enum Player {
+    Replay,
+    Calls,
 }
 
 pub struct Replay<'a> {
@@ -61,11 +71,20 @@ impl<'a> Replay<'a> {
 
     /// Puts a list with cuts to the replay.
     pub fn list(&mut self, list: &[Item], uncut: &Played) {
+        self.put(Player::Replay, list, uncut);
+    }
+
+    /// Makes the part's own calls of a list with cuts, which may carry 18 bytes.
+    pub fn by_calls(&mut self, list: &[Item], uncut: &Played) {
+        self.put(Player::Calls, list, uncut);
+    }
+
+    fn put(&mut self, player: Player, list: &[Item], uncut: &Played) {
         let cuts = list.iter().filter(|item| item.is_cut()).count();
         self.run.calls += (list.len() - cuts) as u64;
         self.run.cuts += cuts as u64;
-        if self.difference(list, uncut).is_some() {
-            self.differ(list);
+        if self.difference(player, list, uncut).is_some() {
+            self.differ(player, list);
         }
     }
 
@@ -97,23 +116,30 @@ impl<'a> Replay<'a> {
         }
     }
 
-    /// The wrong replay that stands in for the right one.
-    fn seed_fault(&mut self, list: &[Item]) -> u32 {
-        let played = cut_without_restore(&self.image, list);
+    /// The replay, or with a fault a wrong one that stands in for it.
+    fn replayed(&mut self, list: &[Item]) -> u32 {
+        let played = match self.run.fault {
+            Fault::Replay => cut_without_restore(&self.image, list),
+            Fault::LostFlag => cut_without_flag(&self.image, list),
+            _ => return replay(&self.image, USUAL_PART, &encoded(list), &mut self.memory, &mut self.scratch, &mut self.out),
+        };
         self.memory.copy_from_slice(&played.memory);
         self.scratch.fill(0);
         self.out[..played.answers.len()].copy_from_slice(&played.answers);
         0
     }
 
-    fn difference(&mut self, list: &[Item], uncut: &Played) -> Option<String> {
+    fn difference(&mut self, player: Player, list: &[Item], uncut: &Played) -> Option<String> {
+        match player {
+            Player::Replay => self.replay_differs(list, uncut),
+            Player::Calls => self.calls_differ(list, uncut),
+        }
+    }
+
+    fn replay_differs(&mut self, list: &[Item], uncut: &Played) -> Option<String> {
         let (memory, end, spare) = (self.memory_length(), uncut.answers.len(), list.len() % SPARE);
         self.lend(Lengths { memory, scratch: memory + spare, out: end + spare });
-        let refusal = if self.run.fault == Fault::Replay {
-            self.seed_fault(list)
-        } else {
-            replay(&self.image, USUAL_PART, &encoded(list), &mut self.memory, &mut self.scratch, &mut self.out)
-        };
+        let refusal = self.replayed(list);
         if refusal != 0 {
             return Some(format!("the replay refuses with {refusal}"));
         }
@@ -130,16 +156,35 @@ impl<'a> Replay<'a> {
         (!holds_only(&self.scratch, 0)).then(|| "the scratch is not left all zeros".into())
     }
 
-    fn differ(&mut self, list: &[Item]) -> ! {
-        let list = self.shortened(list.to_vec());
+    /// Where all cuts carry 20 bytes, all is compared; where one carries 18, the flag is left out, everywhere.
+    fn calls_differ(&self, list: &[Item], uncut: &Played) -> Option<String> {
+        let (mut cut, cut_tallies) = match Cartridge::open(&self.image, self.memory_length()).played(list) {
+            Ok(played) => played,
+            Err(wrong) => return Some(wrong.into()),
+        };
+        let is_old = |item: &Item| matches!(item, Item::Cut(Layout::One));
+        if list.iter().any(is_old) && self.run.fault != Fault::Old {
+            flag_places(list, self.memory_length()).into_iter().for_each(|place| cut.answers[place] = uncut.answers[place]);
+        }
+        if cut.answers != uncut.answers {
+            return Some(answer_that_differs(list, &uncut.answers, &cut.answers));
+        }
+        if cut.memory != uncut.memory {
+            return Some("the save memory at the end is another".into());
+        }
+        (cut_tallies != tallies(&uncut.memory)).then(|| "the tallies at the end are others".into())
+    }
+
+    fn differ(&mut self, player: Player, list: &[Item]) -> ! {
+        let list = self.shortened(player, list.to_vec());
         let uncut = self.uncut(&list);
-        let difference = self.difference(&list, &uncut).expect("a list that differs");
+        let difference = self.difference(player, &list, &uncut).expect("a list that differs");
         let frames: Vec<String> = list.iter().map(|item| format!("\n    {}", item.frame())).collect();
         self.run.differ(&format!("{difference}\n  the list, made shorter:{}", frames.concat()));
     }
 
     /// Leaves out what the difference does not need.
-    fn shortened(&mut self, mut list: Vec<Item>) -> Vec<Item> {
+    fn shortened(&mut self, player: Player, mut list: Vec<Item>) -> Vec<Item> {
         let end = Instant::now() + SHORTENING;
         let mut size = list.len();
         while size > 0 {
@@ -148,7 +193,7 @@ impl<'a> Replay<'a> {
                 let mut shorter = list.clone();
                 shorter.drain(at..list.len().min(at + size));
                 let uncut = self.uncut(&shorter);
-                if self.difference(&shorter, &uncut).is_some() {
+                if self.difference(player, &shorter, &uncut).is_some() {
                     list = shorter;
                 } else {
                     at += size;
@@ -189,9 +234,9 @@ fn bytes_shown(bytes: &[u8]) -> String {
 }
 
 /// Whose answer differs first, and how.
-fn answer_that_differs(list: &[Item], original: &[u8], replay: &[u8]) -> String {
-    let at = original.iter().zip(replay).position(|(a, b)| a != b).expect("a byte that differs");
-    let values = format!("the original has {:02X}, the replay {:02X}", original[at], replay[at]);
+fn answer_that_differs(list: &[Item], original: &[u8], cut: &[u8]) -> String {
+    let at = original.iter().zip(cut).position(|(a, b)| a != b).expect("a byte that differs");
+    let values = format!("uncut the original has {:02X}, cut the part {:02X}", original[at], cut[at]);
     let mut end = 0;
     for (number, item) in list.iter().enumerate() {
         let start = end;

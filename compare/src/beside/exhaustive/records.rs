@@ -1,4 +1,4 @@
-//! Restores: every byte with every value, every two fields around their limits, and every serial position.
+//! Restores: every byte with every value, every two fields around their limits, and every serial position, each by 18 bytes and by 20.
 
 use crate::pair::Pair;
 use compare::call::Call;
@@ -19,7 +19,7 @@ fn every_byte(pair: &mut Pair, base: &Chip) {
         for value in 0..=255 {
             let mut chip = *base;
             chip[at] = value;
-            pair.call(Call::Restore(chip));
+            by_both(pair, chip);
         }
     }
 }
@@ -28,7 +28,7 @@ fn every_two_fields(pair: &mut Pair, base: &Chip) {
     for (number, first) in FIELDS.iter().enumerate() {
         for second in &FIELDS[number + 1..] {
             for a in first.limits {
-                pair.calls(second.limits.iter().map(|b| Call::Restore(second.set(&first.set(base, *a), *b))));
+                second.limits.iter().for_each(|b| by_both(pair, second.set(&first.set(base, *a), *b)));
             }
         }
     }
@@ -38,8 +38,13 @@ fn every_position(pair: &mut Pair) {
     for width in 0..16 {
         for large in 0..3 {
             for phase in 0..8 {
-                pair.calls((0..67).map(|count| Call::Restore(serial(width, large, phase, count))));
+                (0..67).for_each(|count| by_both(pair, serial(width, large, phase, count)));
             }
         }
     }
+}
+
+/// The layouts take turns.
+fn by_both(pair: &mut Pair, chip: Chip) {
+    pair.calls([Call::Restore(chip); 2]);
 }

@@ -3,7 +3,7 @@
 use std::error::Error;
 
 use crate::game::{self, image};
-use gbasave::{Cartridge, Imported, Refusal};
+use gbasave::{Cartridge, Imported, Refusal, SaveFile};
 
 const SAVE_PLACE: u32 = 0x0E00_0010;
 
@@ -120,8 +120,8 @@ fn write_back() -> Result<(), Box<dyn Error>> {
     host.play(4, 2, 300, 4, 0);
     host.play(5, 2, 310, 2, 2);
 
-    // A state that is resumed changes bytes too.
-    let changed = host.cart.resume(&state)?;
+    // A state that is resumed changes bytes too. The card has a later file: that of frame 4.
+    let changed = host.cart.resume(&state, SaveFile::MayBeOther)?;
     print!("  {:24} ", "frame 2 resumed");
     host.end_frame(changed);
     assert_eq!((changed, host.unwritten), (4, 6), "level, gold and check byte change");

@@ -1,7 +1,7 @@
 //! A small host. It opens images, saves on every chip, takes states in the middle of an 81-bit write and resumes them in a fresh
-//! cartridge and in the open one. It gives a game the flash chip that the game looks for. It writes the file out when enough bytes
-//! have changed. It shows in a save menu which cartridges are empty. It finds the kind of images that it reads in blocks. A wrong
-//! answer ends the program.
+//! cartridge and in the open one. It writes the file out if the changed flag says so, which comes with a state. It gives a game the
+//! flash chip that the game looks for. It writes the file out when enough bytes have changed. It shows in a save menu which
+//! cartridges are empty. It finds the kind of images that it reads in blocks. A wrong answer ends the program.
 
 mod budget;
 mod game;
@@ -14,7 +14,7 @@ mod states;
 use std::error::Error;
 
 use game::{image, WRITE_BITS};
-use gbasave::{detect_save_type, header_checksum, read, rom_crc, title, Cartridge, Imported, Kind, Refusal, State};
+use gbasave::{detect_save_type, header_checksum, read, rom_crc, title, Cartridge, Imported, Kind, Refusal, SaveFile, State};
 
 fn name(kind: Kind) -> &'static str {
     match kind {
@@ -129,7 +129,8 @@ fn played(image: &[u8], cut: Option<Cut>, shown: bool) -> Result<State, Box<dyn 
             // What is played on after the state was taken is forgotten.
             Cut::Open(_) => drop(game::write_block(&mut cart, 100, EARLIER)?),
         }
-        cart.resume(&state)?;
+        cart.resume(&state, SaveFile::AsItWas)?;
+        assert_eq!(cart.state(), state);
     }
     let changed = changed + game::send(&mut cart, after)?;
     assert_eq!(changed, 8, "the write changes the block's eight bytes, cut or uncut");
@@ -155,7 +156,7 @@ fn eeprom_story() -> Result<(), Box<dyn Error>> {
             assert!(played(&image, Some(cut), false)? == uncut, "cut after bit {bits}");
         }
     }
-    println!("  cut after the DMA length and after each of the 81 bits: the same blocks, file and chip,");
+    println!("  cut after the DMA length and after each of the 81 bits: the same blocks, file, chip and flag,");
     println!("  resumed in a fresh cartridge or in the open one");
     Ok(())
 }

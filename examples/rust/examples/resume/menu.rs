@@ -3,7 +3,7 @@
 use std::error::Error;
 
 use crate::game::{self, image};
-use gbasave::{Cartridge, Refusal, STRETCH_SIZE};
+use gbasave::{Cartridge, Refusal, SaveFile, STRETCH_SIZE};
 
 /// What the menu is spared: a reading of the memory, for the checks here.
 fn read_whole(cart: &Cartridge) -> Option<usize> {
@@ -69,10 +69,10 @@ fn files_and_states() -> Result<(), Box<dyn Error>> {
     let state = flash.state();
     game::flash_program(&mut flash, 0x0E00_0000, 0x5A);
     line("flash, played on", &flash, Some(0));
-    flash.resume(&state)?;
+    flash.resume(&state, SaveFile::AsItWas)?;
     line("flash, a state resumed", &flash, Some(10));
     let mut fresh = opened("FLASH_V")?;
-    fresh.resume(&state)?;
+    fresh.resume(&state, SaveFile::AsItWas)?;
     line("the same, opened again", &fresh, Some(10));
     Ok(())
 }

@@ -4,7 +4,7 @@ use std::error::Error;
 
 use crate::game::{self, image};
 use crate::{name, states};
-use gbasave::{Cartridge, NotResumed, Part, Refusal, State};
+use gbasave::{Cartridge, NotResumed, Part, Refusal, SaveFile, State};
 
 /// A game that saves only on one chip: what a host keeps in its list of such games, and the ID word that the game knows.
 struct PickyGame {
@@ -40,7 +40,7 @@ impl PickyGame {
     /// A state, taken in ID mode. The word is not in it: whoever resumes it opens the cartridge with the same part.
     fn resume(&self, image: &[u8], state: &State) -> Result<(), Box<dyn Error>> {
         let mut cart = Cartridge::open_with_part(image, state.cartridge.part)?;
-        cart.resume(state)?;
+        cart.resume(state, SaveFile::AsItWas)?;
         let found = game::read_id_word(&cart);
         assert_eq!(found, self.word);
         game::flash_id_mode(&mut cart, false);

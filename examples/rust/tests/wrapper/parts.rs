@@ -1,5 +1,5 @@
 use crate::{game, images, large_image};
-use gbasave::{Cartridge, Kind, NotResumed, Part, Refusal};
+use gbasave::{Cartridge, Kind, NotResumed, Part, Refusal, SaveFile};
 
 /// The ID word of a part on a kind, if it fits.
 fn word(part: Part, kind: Kind) -> Option<u16> {
@@ -89,7 +89,7 @@ fn a_state_is_resumed_with_its_own_part_only() {
             for other in &carts {
                 let (mut resumed, same) = (other.clone(), other.part() == cart.part());
                 let expected = if same { Ok(()) } else { Err(NotResumed::OtherPart) };
-                assert_eq!(resumed.resume(&taken.state()).map(drop), expected);
+                assert_eq!(resumed.resume(&taken.state(), SaveFile::AsItWas).map(drop), expected);
                 assert!(same || resumed == *other);
                 if same && is_flash(kind) {
                     assert_eq!(game::read_id_word(&resumed), word(cart.part(), kind).unwrap());
@@ -108,6 +108,6 @@ fn another_cartridge_is_told_before_another_part() {
         ("OTHER", Part::Sst64k, NotResumed::OtherCartridge),
     ] {
         let mut cart = Cartridge::open_with_part(&game::image(title, "FLASH_V"), part).unwrap();
-        assert_eq!(cart.resume(&state), Err(why));
+        assert_eq!(cart.resume(&state, SaveFile::AsItWas), Err(why));
     }
 }

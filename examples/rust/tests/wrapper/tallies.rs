@@ -1,5 +1,5 @@
 use crate::{game, images, large_image};
-use gbasave::{Cartridge, Kind, STRETCH_SIZE};
+use gbasave::{Cartridge, Kind, SaveFile, STRETCH_SIZE};
 
 /// Both answers are those of a reading of the whole memory.
 fn compare(cart: &Cartridge) -> Option<usize> {
@@ -119,7 +119,7 @@ fn states_carry_no_tallies() {
                 let _ = (resumed.import_save(&[0; 3]), resumed.eeprom_write(1));
                 compare(&resumed);
             }
-            resumed.resume(&state).unwrap();
+            resumed.resume(&state, SaveFile::AsItWas).unwrap();
             assert_eq!(compare(&resumed), before);
         }
     }
