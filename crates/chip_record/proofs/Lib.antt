@@ -1,3 +1,4 @@
 pub mod ChipState
 pub mod Fields
 pub mod Layouts
+pub mod Examples

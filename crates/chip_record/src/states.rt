@@ -67,10 +67,11 @@ pub fn state_questions(b: &[u8]) -> u8
 pub fn flag_from(b: &[u8], dirty: bool) -> bool
     ensures { λ r. ⌜ r ≡ flagFrom (now (b .entry)) dirty ⌝ }
 {
-    if b.len() == layout::STATE_SIZE {
-        return b[layout::FLAG] == 1;
+    let n = b.len();
+    if n != layout::STATE_SIZE {
+        return dirty;
     }
-    dirty
+    b[layout::FLAG] == 1
 }
 
 // The chip record of a state of either length.
