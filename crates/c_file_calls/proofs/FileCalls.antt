@@ -16,7 +16,7 @@ use Rattle.memory.specs.Memory.{stored, withCount}
 use Rattle.kind.specs.Kind.{memorySize, tallyCount}
 use Rattle.file_sizes.specs.SaveFit.{saveFit, taken, keptPart}
 use Rattle.cart.specs.declared.Reply.{Reply}
-use Rattle.cart.specs.ChipState.{chipOf}
+use Rattle.chip_record.specs.ChipState.{chipOf}
 use Rattle.cart.specs.Record.{State, counted}
 use Rattle.cart.specs.Calls.{loadSave, saveData, largeAfter, load, fileOf, exported, question16, questions, accepted, importSave}
 use Rattle.cart.specs.Replies.{exportReplied}

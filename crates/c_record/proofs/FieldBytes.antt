@@ -15,7 +15,7 @@ use Rattle.flash.specs.declared.Flash.{Flash}
 use Rattle.eeprom.specs.declared.Eeprom.{Eeprom}
 use Rattle.eeprom.specs.Eeprom.{told, serial, ended}
 use Rattle.cart.specs.declared.Cartridge.{Cartridge}
-use Rattle.cart.specs.ChipState.{phaseNumber, chipBytes, chipOf}
+use Rattle.chip_record.specs.ChipState.{phaseNumber, chipBytes, chipOf}
 use Rattle.cart.specs.Replies.{chipRecord, cartWith}
 use Rattle.c_record.specs.RecordBytes.{recordBytes, cartOf, Valid}
 use Rattle.c_record.specs.Fields.{withFlash, withId, withWidth, withLarge, withShift, withPlace, withEnded, withSerial}

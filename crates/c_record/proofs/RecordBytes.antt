@@ -22,11 +22,11 @@ use Rattle.kind.proofs.Numbers.{kind-le, kind-back, kind-forth}
 use Rattle.part.specs.declared.Part.the-variants.{Usual}
 use Rattle.part.specs.Part.{partNumber, partOf, partFits, numberFits}
 use Rattle.part.proofs.Numbers.{part-le, part-back, part-forth}
-use Rattle.cart.specs.declared.ChipRecord.{ChipRecord}
+use Rattle.chip_record.specs.declared.ChipRecord.{ChipRecord}
 use Rattle.cart.specs.declared.Cartridge.{Cartridge}
-use Rattle.cart.specs.ChipState.{chipBytes, chipOf, fieldQuestions}
+use Rattle.chip_record.specs.ChipState.{chipBytes, chipOf, fieldQuestions}
 use Rattle.cart.specs.Record.{recordAllowed, freshCart}
-use Rattle.cart.proofs.ChipState.{own-size, chip-back, bytes-back}
+use Rattle.chip_record.proofs.ChipState.{own-size, chip-back, bytes-back}
 use Rattle.c_record.specs.RecordBytes.{recordBytes, chipIn, cartOf, isRecord, Valid}
 use Rattle.c_record.specs.Claims.{RecordAndBytes}
 

@@ -6,7 +6,7 @@ use lib.ListN.{getD, set}
 use Rattle.flash.specs.declared.Flash.{Flash}
 use Rattle.eeprom.specs.declared.Eeprom.{Eeprom}
 use Rattle.lists.specs.Lists.{bit}
-use Rattle.cart.specs.ChipState.{phaseNumber}
+use Rattle.chip_record.specs.ChipState.{phaseNumber}
 use Rattle.c_record.specs.RecordBytes.{dirtyAt}
 
 -- where each field of the chip record is

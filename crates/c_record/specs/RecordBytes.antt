@@ -11,7 +11,7 @@ use Rattle.image.specs.Image.{imageLength}
 use Rattle.kind.specs.Kind.{kindNumber, kindOf}
 use Rattle.part.specs.Part.{partNumber, partOf, numberFits}
 use Rattle.cart.specs.declared.Cartridge.{Cartridge}
-use Rattle.cart.specs.ChipState.{chipRecordSize, chipBytes, chipOf, fieldQuestions}
+use Rattle.chip_record.specs.ChipState.{chipRecordSize, chipBytes, chipOf, fieldQuestions}
 use Rattle.cart.specs.Record.{State, recordAllowed}
 use Rattle.cart.specs.Replies.{tallied}
 

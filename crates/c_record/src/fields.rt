@@ -48,7 +48,7 @@ fn eeprom_of(bytes: &[u8]) -> Eeprom
     requires { ⌜ length (now bytes) ≡ recordSize ⌝ }
     ensures { λ e. ⌜ e ≡ cartOf (now (bytes .entry)) .chip .eeprom ⌝ }
 {
-    let chip = cart::chip_of(&bytes[layout::CHIP..layout::PART]);
+    let chip = chip_record::chip_of(&bytes[layout::CHIP..layout::PART]);
     chip.eeprom
 }
 

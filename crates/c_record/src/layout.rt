@@ -1,6 +1,6 @@
 // The bytes of a cartridge record: how many they are, and where each field is.
-use cart::CHIP_SIZE;
-use cart::layout;
+use chip_record::CHIP_SIZE;
+use chip_record::layout;
 
 pub const RECORD_SIZE: usize = 25;
 

@@ -105,7 +105,7 @@ pub fn put_eeprom(cart: &mut RecordBytes, sets: bool, e: Eeprom)
     let flag = cart[layout::DIRTY];
     cart[layout::WIDTH] = e.width;
     cart[layout::LARGE] = lists::bit(e.large);
-    cart[layout::PHASE] = cart::phase_number(phase);
+    cart[layout::PHASE] = chip_record::phase_number(phase);
     cart[layout::COUNT] = e.count;
     cart[layout::BLOCK] = (e.block % 256) as u8;
     cart[layout::BLOCK + 1] = (e.block / 256) as u8;
@@ -120,7 +120,7 @@ pub fn record_bytes(cart: Cartridge) -> RecordBytes
     let kind = cart.kind;
     let part = cart.part;
     let chip = cart.chip;
-    let b = cart::chip_bytes(chip);
+    let b = chip_record::chip_bytes(chip);
     [
         (cart.len % 256) as u8,
         (cart.len / 256 % 256) as u8,

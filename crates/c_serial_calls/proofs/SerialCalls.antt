@@ -23,7 +23,7 @@ use Rattle.eeprom.specs.Eeprom.{readBit, drawnBy, drawnFrom}
 use Rattle.eeprom.proofs.Turns.{by-turn, after-drawn}
 use Rattle.cart.specs.Calls.{eepromBeginDma, eepromWrite, eepromRead, question16, questions, accepted}
 use Rattle.c_record.specs.RecordBytes.{recordBytes, cartOf, Valid, stateOf}
-use Rattle.cart.proofs.Fields.{allowed-bounds}
+use Rattle.cart.proofs.Bounds.{allowed-bounds}
 use Rattle.c_record.specs.Fields.{withWidth, withShift, withPlace, withEnded, withSerial}
 use Rattle.c_record.specs.AtExit.{plain, valueAt, changedAt}
 use Rattle.c_record.specs.Calls.{announces, takesBit, givesBit}

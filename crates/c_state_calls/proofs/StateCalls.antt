@@ -12,15 +12,15 @@ use Rattle.lists.specs.Lists.{bit, lowFirst, withPart, into}
 use Rattle.lists.specs.Questions.{asked}
 use Rattle.lists.proofs.Bools.{cases, bit-forth}
 use Rattle.lists.proofs.Parts.{mid-part}
-use Rattle.cart.specs.declared.ChipRecord.{ChipRecord}
+use Rattle.chip_record.specs.declared.ChipRecord.{ChipRecord}
 use Rattle.cart.specs.declared.Cartridge.{Cartridge}
 use Rattle.cart.specs.declared.Reply.{Reply}
-use Rattle.cart.specs.ChipState.{chipBytes, chipOf}
-use Rattle.cart.specs.States.{stateBytes, isLayout2, eighteenOf, flagFrom, stateQuestions}
+use Rattle.chip_record.specs.ChipState.{chipBytes, chipOf}
+use Rattle.chip_record.specs.States.{stateBytes, isLayout2, eighteenOf, flagFrom, stateQuestions}
 use Rattle.cart.specs.Record.{fromBytes}
 use Rattle.cart.specs.Calls.{chipState, questions, accepted, restore}
 use Rattle.cart.specs.Replies.{cartWith, storeReplied}
-use Rattle.cart.proofs.Layouts.{Taken, taken, eighteen-back}
+use Rattle.chip_record.proofs.Layouts.{Taken, taken, eighteen-back}
 use Rattle.c_record.specs.RecordBytes.{recordBytes, chipIn, cartOf, Valid}
 use Rattle.c_record.specs.AtExit.{called, stateAt}
 use Rattle.c_record.specs.Calls.{opens, givesState, restores}
@@ -66,7 +66,7 @@ module _ (r : List ℕ) (n : length r ≡ 25) where
       rw p (mid-part r 6 24 b (omega arith))
 
 -- the state among a record's bytes, and another chip record and flag in their places
-state-read : (c : Cartridge) → chipIn (recordBytes c) ++ (getD (recordBytes c) 5 0 ∷ 2 ∷ []) ≡ stateBytes c
+state-read : (c : Cartridge) → chipIn (recordBytes c) ++ (getD (recordBytes c) 5 0 ∷ 2 ∷ []) ≡ stateBytes (c .chip) (c .dirty)
 unfolding recordBytes lowFirst chipBytes stateBytes
 state-read c = refl
 

@@ -1,16 +1,16 @@
 // Opening, `chip_state` and restore.
 use c_record::RecordBytes;
 use c_record::layout;
-use cart::StateBytes;
-use cart::layout as state;
+use chip_record::StateBytes;
+use chip_record::layout as state;
 ghost use mathlib.Core.Path.{_≡_};
 ghost use mathlib.Core.Bool.{cond};
 ghost use mathlib.Core.List.{List, [], _∷_, _++_};
 ghost use Prim.Native.Nat.{ℕ};
 ghost use lib.ListN.{length, getD, set};
 ghost use Rattle.lists.specs.Lists.{withPart};
-ghost use Rattle.cart.specs.ChipState.{chipRecordSize};
-ghost use Rattle.cart.specs.States.{stateSize, layoutNumber, flagAt, isLayout2};
+ghost use Rattle.chip_record.specs.ChipState.{chipRecordSize};
+ghost use Rattle.chip_record.specs.States.{stateSize, layoutNumber, flagAt, isLayout2};
 ghost use Rattle.c_record.specs.RecordBytes.{recordSize, dirtyAt, chipAt, chipIn};
 ghost use Rattle.c_record.specs.Calls.{opens, givesState, restores};
 
@@ -82,7 +82,7 @@ pub fn restore_chip_state(cart: &mut RecordBytes, bytes: &[u8]) -> u32
     if !c_record::is_record(cart) {
         return 2;
     }
-    let refusal = cart::state_questions(bytes);
+    let refusal = chip_record::state_questions(bytes);
     if refusal != 0 {
         return refusal as u32;
     }

@@ -6,7 +6,7 @@ use mathlib.Core.List.{List, [], _∷_}
 use Prim.Native.Nat.{ℕ, zero, suc, _+_, _*_, _-_}
 use lib.Dec.{leb, eqb}
 use lib.ListN.{length, getD}
-use Rattle.cart.specs.States.{stateSize}
+use Rattle.chip_record.specs.States.{stateSize}
 use Rattle.call_list.specs.declared.Item.{Item}
 use Rattle.call_list.specs.declared.Item.the-variants.{SaveRead, SaveWrite, EepromRead, EepromWrite, BeginDma}
 use Rattle.call_list.specs.declared.Item.the-variants.{TakeFlag, ChipState, LoadSave, SaveData, Cut, Bad}

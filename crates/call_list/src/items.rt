@@ -1,6 +1,6 @@
 // The item at the front of an encoded list, how many bytes it takes there, and how many its answer takes.
 use crate::Item;
-use cart::STATE_SIZE;
+use chip_record::STATE_SIZE;
 ghost use mathlib.Core.Path.{_≡_};
 ghost use Prim.Native.Nat.{_+_, _≤_, _<_};
 ghost use lib.ListN.{length, getD};

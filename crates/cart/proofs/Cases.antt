@@ -10,7 +10,7 @@ use Rattle.part.specs.Part.{partOf, partFits}
 use Rattle.file_sizes.specs.SaveFit.{chipSize, saveFit}
 use Rattle.flash.specs.Flash.{stateAllowed}
 use Rattle.eeprom.specs.Eeprom.{widthAllowed, w, tells6, tells14, beginDma, dmaQuestion, shiftIn, opcodePhase, turned, writeBit, bitIn}
-use Rattle.cart.specs.ChipState.{phaseOf, chipBytes, chipOf, fieldQuestions}
+use Rattle.chip_record.specs.ChipState.{phaseOf, chipBytes, chipOf, fieldQuestions}
 use Rattle.cart.specs.Record.{recordAllowed, freshCart, fresh, fromBytes}
 use Rattle.cart.specs.Calls.{load, questions, accepted, step, restore}
 use Rattle.cart.specs.Gbatek.{calls}

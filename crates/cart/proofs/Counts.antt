@@ -27,7 +27,7 @@ use Rattle.cart.specs.Record.{State, Outcome, guarded, counted, outcome,
 use Rattle.cart.specs.Calls.{Call, saveRead, saveWrite, eepromBeginDma, eepromWrite, eepromRead, loadSave, saveData, chipState, takeSaveDirty}
 use Rattle.cart.specs.Calls.{writeSave, load, fileOf, exported, questions, accepted, step, importQuestions, importSave}
 use Rattle.cart.specs.Counts.{storeOf, passed, Counts}
-use Rattle.cart.proofs.Fields.{allowed-bounds}
+use Rattle.cart.proofs.Bounds.{allowed-bounds}
 use Rattle.cart.proofs.Sound.{eeprom-size, step-next}
 use Rattle.cart.proofs.Recoverable.{exported-next}
 

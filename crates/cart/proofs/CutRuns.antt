@@ -13,12 +13,13 @@ use Rattle.kind.specs.declared.SaveType.the-variants.{None, Sram, Flash64, Flas
 use Rattle.kind.specs.Kind.{usesEeprom, detectSaveType}
 use Rattle.eeprom.specs.Eeprom.{bitIn}
 use Rattle.part.specs.Part.{partOf}
-use Rattle.cart.specs.ChipState.{chipBytes}
-use Rattle.cart.specs.States.{stateBytes}
+use Rattle.chip_record.specs.ChipState.{chipBytes}
+use Rattle.chip_record.specs.States.{stateBytes}
 use Rattle.cart.specs.Record.{State, Outcome, outcome, outcomeOf, counted, recordAllowed, fresh, fromBytes}
 use Rattle.cart.specs.Calls.{Call, saveWrite, loadSave, saveData, chipState, saveRead, eepromBeginDma, eepromWrite, eepromRead, takeSaveDirty, readSave, writeSave, load, fileOf, exported, questions, accepted, step}
 use Rattle.cart.specs.Resume.{withFlag, flagOf}
-use Rattle.cart.specs.Cut.{fileLeft, bytesLeft, Carried, eighteen, twenty, cut, cuts, Turn, Shown, shown, Compared, run, uncut, carriesFlag, allCarryFlag, flagLeftOut, answerSeen, seen, CutRuns}
+use Rattle.cart.specs.Cut.{fileLeft, bytesLeft, cut, cuts, Turn, Shown, shown, Compared, run, uncut, carriesFlag, allCarryFlag, flagLeftOut, answerSeen, seen, CutRuns}
+use Rattle.chip_record.specs.States.{Carried, eighteen, twenty}
 use Rattle.cart.proofs.Sound.{Sound, record-allowed, memory-fits, opened}
 use Rattle.cart.proofs.Recoverable.{Recoverable, NoByteWrite, clash, recoverable-step, recoverable-fresh}
 use Rattle.cart.proofs.Resume.{file-left, bytes-left, cut-is}
@@ -147,7 +148,7 @@ cuts-kept image part memory tallies flags (v ∷ vs) s p h r =
     (ap (λ (z : State). stateSeen flags (cuts image part memory tallies vs z)) q ∙ i .0 ∙ k .0, subst (λ (z : State). Recoverable image part (cuts image part memory tallies vs z)) (sym q) (i .1))
 
 -- what is left at the end
-state-quiet : (s : State) → flagLeftOut (stateBytes (quiet s .cart)) ≡ flagLeftOut (stateBytes (s .cart))
+state-quiet : (s : State) → flagLeftOut (stateBytes (quiet s .cart .chip) (quiet s .cart .dirty)) ≡ flagLeftOut (stateBytes (s .cart .chip) (s .cart .dirty))
 unfolding stateBytes chipBytes lowFirst
 state-quiet s = refl
 
@@ -155,7 +156,7 @@ pub bytes-same : (flags : Bool) (s t : State) → Sound s → Sound t → stateS
     → cond flags (bytesLeft s) (flagLeftOut (bytesLeft s)) ≡ cond flags (bytesLeft t) (flagLeftOut (bytesLeft t))
 bytes-same true s t k l e = ap bytesLeft e
 bytes-same false s t k l e =
-    ap flagLeftOut (bytes-left s (record-allowed s k)) ∙ sym (state-quiet s) ∙ ap (λ (z : State). flagLeftOut (stateBytes (z .cart))) e ∙ state-quiet t
+    ap flagLeftOut (bytes-left s (record-allowed s k)) ∙ sym (state-quiet s) ∙ ap (λ (z : State). flagLeftOut (stateBytes (z .cart .chip) (z .cart .dirty))) e ∙ state-quiet t
     ∙ sym (ap flagLeftOut (bytes-left t (record-allowed t l)))
 
 pub file-same : (s t : State) → Sound s → Sound t → quiet s ≡ quiet t → fileLeft s ≡ fileLeft t

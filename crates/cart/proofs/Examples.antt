@@ -19,8 +19,8 @@ use Rattle.file_sizes.specs.SaveFit.{chipSize, eepromFit, saveFit, keptPart}
 use Rattle.flash.specs.Flash.{stateAllowed}
 use Rattle.eeprom.specs.Eeprom.{widthAllowed, w, readBit, afterRead}
 use Rattle.byte_step.specs.ByteStep.{readByte, writeStep}
-use Rattle.cart.specs.ChipState.{phaseOf, chipBytes, chipOf, fieldQuestions}
-use Rattle.cart.specs.States.{stateBytes}
+use Rattle.chip_record.specs.ChipState.{phaseOf, chipBytes, chipOf, fieldQuestions}
+use Rattle.chip_record.specs.States.{stateBytes}
 use Rattle.cart.specs.Record.{State, refused, recordAllowed, freshCart, fresh, fromBytes}
 use Rattle.cart.specs.Calls.{saveRead, saveWrite, eepromWrite, eepromRead, loadSave, saveData, chipState, takeSaveDirty, chipWith, stateWith, readSave, writeSave, load, fileOf, questions, accepted, step, restore, importSave, usesEepromOf, eepromWindowStart, isBlank, inUse}
 use Rattle.cart.specs.Stretches.{withTallies}
@@ -50,10 +50,8 @@ record Refusals : Type 0 where
   first : step (saveWrite 0 0) [] (longer (spoiled plain)) .refusal ≡ 2
   open3 : fromBytes sram 0 [] [] ≡ refused 3 (record { cart = freshCart 0 None Usual; memory = []; tallies = [] }) []
   kind4 : step (eepromWrite 0) [] plain .refusal ≡ 4
-  state : (restored [] ≡ 6) × (restored (replicate 19 0) ≡ 6) × (restored (replicate 21 0) ≡ 6) × (restored (chip 9 0 0 0 0) ≡ 8) × (restored (chip 0 2 0 0 0) ≡ 9)
-  -- 17 before 7, also where byte 18 is wrong; 18 after 12
-  layout17 : (restored (chip 0 0 0 0 0 ++ (0 ∷ 1 ∷ [])) ≡ 17) × (restored (chip 0 0 7 0 0 ++ (2 ∷ 3 ∷ [])) ≡ 17) × (restored (chip 0 0 7 0 0 ++ (2 ∷ 2 ∷ [])) ≡ 7)
-  flag18 : (restored (chip 0 0 0 0 0 ++ (2 ∷ 2 ∷ [])) ≡ 18) × (restored (chip 0 0 3 64 0 ++ (2 ∷ 2 ∷ [])) ≡ 12) × (restored (chip 0 0 0 0 0 ++ (1 ∷ 2 ∷ [])) ≡ 0)
+  state : (restored [] ≡ 6) × (restored (replicate 19 0) ≡ 6) × (restored (chip 9 0 0 0 0) ≡ 8) × (restored (chip 0 2 0 0 0) ≡ 9)
+  state2 : (restored (chip 0 0 7 0 0 ++ (2 ∷ 3 ∷ [])) ≡ 17) × (restored (chip 0 0 0 0 0 ++ (2 ∷ 2 ∷ [])) ≡ 18)
   width10 : restored (replicate 3 0 ++ (7 ∷ replicate 14 0)) ≡ 10
   room13 : step saveData (replicate 511 7) eeprom .refusal ≡ 13
   import14 : importSave (replicate 513 0) eeprom .refusal ≡ 14
@@ -80,9 +78,8 @@ refusals =
       first = refl;
       open3 = refl;
       kind4 = refl;
-      state = (refl, refl, refl, refl, refl);
-      layout17 = (refl, refl, refl);
-      flag18 = (refl, refl, refl);
+      state = (refl, refl, refl, refl);
+      state2 = (refl, refl);
       width10 = refl;
       room13 = refl;
       import14 = refl;

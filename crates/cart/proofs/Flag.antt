@@ -1,7 +1,7 @@
 -- The changed flag. Assumes nothing.
 use mathlib.Core.Path.{_≡_, refl}
 use mathlib.Core.Logic.{_≢_}
-use mathlib.Core.Bool.{Bool, true, false, _||_}
+use mathlib.Core.Bool.{Bool, true, false, cond, _||_}
 use mathlib.Core.List.{List, []}
 use mathlib.Core.Option.{Option, none, some}
 use Prim.Native.Nat.{ℕ, _%_}
@@ -52,13 +52,12 @@ stays c d s n h =
 leaves : (qs : List Question) (d : List ℕ) (s : State) (o : Outcome) → o .next .cart .dirty ≡ s .cart .dirty → guarded qs d s o .next .cart .dirty ≡ s .cart .dirty
 leaves qs d s o h = either (λ (r : Outcome). r .next .cart .dirty ≡ s .cart .dirty) (eqb (asked qs) 0) h refl
 
--- a restore of layout 2 that is accepted
-restored : (b : List ℕ) (s : State) → restore b s .refusal ≡ 0 → length b ≡ 20 → restore b s .next .cart .dirty ≡ eqb (getD b 18 0) 1
+-- a restore that is accepted
+restored : (b : List ℕ) (s : State) → restore b s .refusal ≡ 0 → restore b s .next .cart .dirty ≡ cond (eqb (length b) 20) (eqb (getD b 18 0) 1) (s .cart .dirty)
 unfolding restore
-restored b s h l =
-    split (λ (o : Outcome). o .refusal ≡ 0 → o .next .cart .dirty ≡ eqb (getD b 18 0) 1) (eqb (asked (restoreQuestions b s)) 0) (λ e z. rw l)
+restored b s =
+    split (λ (o : Outcome). o .refusal ≡ 0 → o .next .cart .dirty ≡ cond (eqb (length b) 20) (eqb (getD b 18 0) 1) (s .cart .dirty)) (eqb (asked (restoreQuestions b s)) 0) (λ e z. refl)
     (λ e z. absurd (eqb-false (asked (restoreQuestions b s)) 0 e z))
-    h
 
 pub flag-kept : FlagKept
 unfolding step accepted load restore importSave
@@ -67,6 +66,5 @@ flag-kept =
       stays = stays;
       load = λ f d s. leaves (questions (loadSave f) d s) d s (counted s (accepted (loadSave f) d s)) refl;
       restored = restored;
-      restoredOld = λ b s l. leaves (restoreQuestions b s) [] s _ (rw l);
       imported = λ f s. leaves (importQuestions f s) [] s _ refl;
     }

@@ -20,7 +20,7 @@ use Rattle.byte_step.specs.ByteStep.{readByte, writeStep}
 use Rattle.cart.specs.Record.{State, outcome, counted}
 use Rattle.cart.specs.Calls.{saveRead, saveWrite, flashOf, withFlash, readSave, writeSave, questions, accepted, step}
 use Rattle.cart.specs.Gbatek.{Ran, ran, calls, Usable, FlashPart, sst64K, macronix64K, panasonic64K, usual64K, sanyo128K, macronix128K, usual128K, writes, FlashClaim}
-use Rattle.cart.proofs.Fields.{allowed-bounds}
+use Rattle.cart.proofs.Bounds.{allowed-bounds}
 use Rattle.cart.proofs.Sound.{place-lt, step-accepted}
 use Rattle.cart.proofs.Tallies.{tallies-stay, tallies-again}
 use Rattle.cart.proofs.Usable.{memory-yes, tallies-yes, usable-step}

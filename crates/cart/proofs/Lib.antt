@@ -1,6 +1,4 @@
-pub mod ChipState
-pub mod Layouts
-pub mod Fields
+pub mod Bounds
 pub mod Replies
 pub mod Sound
 pub mod Changes

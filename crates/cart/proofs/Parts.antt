@@ -14,8 +14,8 @@ use Rattle.part.specs.Part.{partOf, partFits}
 use Rattle.flash.specs.declared.Flash.{Flash}
 use Rattle.byte_step.specs.ByteStep.{readByte}
 use Rattle.eeprom.specs.Eeprom.{bitIn}
-use Rattle.cart.specs.declared.ChipRecord.{ChipRecord}
-use Rattle.cart.specs.States.{stateBytes}
+use Rattle.chip_record.specs.declared.ChipRecord.{ChipRecord}
+use Rattle.chip_record.specs.States.{stateBytes}
 use Rattle.cart.specs.Record.{State, Outcome, outcome, counted, recordAllowed, freshCart, fresh}
 use Rattle.cart.specs.Calls.{Call, saveRead, saveWrite, eepromBeginDma, eepromWrite, eepromRead, loadSave, saveData, chipState, takeSaveDirty}
 use Rattle.cart.specs.Calls.{chipWith, stateWith, readSave, writeSave, load, fileOf, exported, questions, accepted, step}

@@ -16,24 +16,25 @@ use Rattle.lists.proofs.Bools.{split, and-left, and-right}
 use Rattle.lists.proofs.Questions.{numbered, refused-first, all-yes, yes-all}
 use Rattle.image.specs.Image.{imageLength}
 use Rattle.part.specs.Part.{partFits}
-use Rattle.cart.specs.declared.ChipRecord.{ChipRecord}
-use Rattle.cart.specs.ChipState.{chipBytes, chipOf, fieldQuestions}
-use Rattle.cart.specs.States.{layoutNumber, stateBytes, eighteenOf, flagFrom, stateQuestions}
-use Rattle.cart.specs.Cut.{Carried, eighteen, twenty, carried}
-use Rattle.cart.specs.Record.{State, Outcome, outcome, chipAllowed, recordAllowed}
+use Rattle.chip_record.specs.declared.ChipRecord.{ChipRecord}
+use Rattle.chip_record.specs.ChipState.{chipBytes, chipOf, fieldQuestions}
+use Rattle.chip_record.specs.States.{layoutNumber, stateBytes, eighteenOf, flagFrom, stateQuestions}
+use Rattle.chip_record.specs.States.{Carried, eighteen, twenty, carried}
+use Rattle.cart.specs.Record.{State, Outcome, outcome, recordAllowed}
+use Rattle.chip_record.specs.ChipState.{chipAllowed}
 use Rattle.cart.specs.Calls.{chipState, chipWith, restoreQuestions, questions, accepted, step, restore}
 use Rattle.cart.specs.Claims.{StateBytes}
-use Rattle.cart.proofs.Layouts.{own-questions, own-restored, own-flag, old-flag, Taken, taken, eighteen-back, twenty-back}
+use Rattle.chip_record.proofs.Layouts.{own-questions, own-restored, own-flag, old-flag, Taken, taken, eighteen-back, twenty-back}
 use Rattle.cart.proofs.Sound.{step-accepted}
 
 -- an allowed record's own questions
-own-yes : (k : Carried) (s : State) → recordAllowed (s .cart) ≡ true → asked (stateQuestions (carried k (stateBytes (s .cart)))) ≡ 0
+own-yes : (k : Carried) (s : State) → recordAllowed (s .cart) ≡ true → asked (stateQuestions (carried k (stateBytes (s .cart .chip) (s .cart .dirty)))) ≡ 0
 unfolding recordAllowed
 own-yes k s h =
     let n : ℕ = asked (fieldQuestions (chipBytes (s .cart .chip))) in
-    own-questions k (s .cart) (eqb-true n 0 (and-right (imageLength (s .cart .len) && partFits (s .cart .part) (s .cart .kind)) (eqb n 0) h))
+    own-questions k (s .cart .chip) (s .cart .dirty) (eqb-true n 0 (and-right (imageLength (s .cart .len) && partFits (s .cart .part) (s .cart .kind)) (eqb n 0) h))
 
-bytes-given : (s : State) → recordAllowed (s .cart) ≡ true → step chipState [] s .given ≡ stateBytes (s .cart)
+bytes-given : (s : State) → recordAllowed (s .cart) ≡ true → step chipState [] s .given ≡ stateBytes (s .cart .chip) (s .cart .dirty)
 unfolding questions accepted
 bytes-given s h = ap (λ (o : Outcome). o .given) (step-accepted chipState [] s (h, tt))
 
@@ -53,19 +54,19 @@ restore-yes b s =
 
 -- what a written state makes of a cartridge with another flag f and another chip record c
 restores-by : (k : Carried) (s : State) (f : Bool) (c : ChipRecord) (dirty : Bool) → recordAllowed (s .cart) ≡ true → s .cart .chip .eeprom .acc < 2 ^ 64
-    → recordAllowed (chipWith s f c .cart) ≡ true → flagFrom (carried k (stateBytes (s .cart))) f ≡ dirty
+    → recordAllowed (chipWith s f c .cart) ≡ true → flagFrom (carried k (stateBytes (s .cart .chip) (s .cart .dirty))) f ≡ dirty
     → restore (carried k (step chipState [] s .given)) (chipWith s f c) ≡ outcome [] (chipWith s dirty (s .cart .chip)) []
 restores-by k s f c dirty h a g e =
-    let b : List ℕ = carried k (stateBytes (s .cart)) in
+    let b : List ℕ = carried k (stateBytes (s .cart .chip) (s .cart .dirty)) in
     ap (λ (l : List ℕ). restore (carried k l) (chipWith s f c)) (bytes-given s h)
     ∙ restore-accepted b (chipWith s f c) (rw g (own-yes k s h))
-    ∙ ap₂ (λ (x : Bool) (y : ChipRecord). outcome [] (chipWith s x y) []) e (own-restored k (s .cart) a)
+    ∙ ap₂ (λ (x : Bool) (y : ChipRecord). outcome [] (chipWith s x y) []) e (own-restored k (s .cart .chip) (s .cart .dirty) a)
 
 restores : (s : State) (f : Bool) (c : ChipRecord) → recordAllowed (s .cart) ≡ true → s .cart .chip .eeprom .acc < 2 ^ 64 → recordAllowed (chipWith s f c .cart) ≡ true
     → (restore (step chipState [] s .given) (chipWith s f c) ≡ outcome [] s []) × (restore (eighteenOf (step chipState [] s .given)) (chipWith s f c) ≡ outcome [] (chipWith s f (s .cart .chip)) [])
 restores s f c h a g = (
-  restores-by twenty s f c (s .cart .dirty) h a g (own-flag (s .cart) f),
-  restores-by eighteen s f c f h a g (old-flag (s .cart) f),
+  restores-by twenty s f c (s .cart .dirty) h a g (own-flag (s .cart .chip) (s .cart .dirty) f),
+  restores-by eighteen s f c f h a g (old-flag (s .cart .chip) (s .cart .dirty) f),
 )
 
 numbers : (b : List ℕ) (s : State) → numbered (restoreQuestions b s) ≡ true

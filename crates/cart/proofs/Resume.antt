@@ -27,17 +27,19 @@ use Rattle.eeprom.specs.declared.EepromPhase.{EepromPhase}
 use Rattle.eeprom.specs.declared.EepromPhase.the-variants.{Opcode, ReadAddress, WriteAddress, WriteData, ReadStop, WriteStop, Reading}
 use Rattle.eeprom.specs.Eeprom.{widthAllowed, w, wOf, countLimit, told}
 use Rattle.eeprom.proofs.Sound as eeprom
-use Rattle.cart.specs.declared.ChipRecord.{ChipRecord}
-use Rattle.cart.specs.States.{stateBytes, flagFrom, stateQuestions}
-use Rattle.cart.specs.Record.{State, Outcome, outcome, chipAllowed, recordAllowed, fresh, freshCart, fromBytes}
+use Rattle.chip_record.specs.declared.ChipRecord.{ChipRecord}
+use Rattle.chip_record.specs.States.{stateBytes, flagFrom, stateQuestions}
+use Rattle.cart.specs.Record.{State, Outcome, outcome, recordAllowed, fresh, freshCart, fromBytes}
+use Rattle.chip_record.specs.ChipState.{chipAllowed}
 use Rattle.cart.specs.Calls.{Call, saveWrite, loadSave, saveData, chipState, stateWith, load, eepromFile, fileOf, exported, holds, questions, accepted, step, restore}
 use Rattle.cart.specs.Counts.{storeOf}
-use Rattle.cart.specs.Cut.{fileIn, fileLeft, bytesLeft, Carried, eighteen, twenty, carried, reloaded, resumed, cut}
+use Rattle.cart.specs.Cut.{fileIn, fileLeft, bytesLeft, reloaded, resumed, cut}
+use Rattle.chip_record.specs.States.{Carried, eighteen, twenty, carried}
 use Rattle.cart.specs.Gbatek.{calls}
 use Rattle.cart.specs.Resume.{Open, withFlag, flagOf, Resumes}
-use Rattle.cart.proofs.ChipState.{chip-allowed}
-use Rattle.cart.proofs.Layouts.{own-questions, own-restored, own-flag, old-flag}
-use Rattle.cart.proofs.Fields.{chip-fields}
+use Rattle.chip_record.proofs.ChipState.{chip-allowed}
+use Rattle.chip_record.proofs.Layouts.{own-questions, own-restored, own-flag, old-flag}
+use Rattle.chip_record.proofs.Fields.{chip-fields}
 use Rattle.cart.proofs.Sound.{Sound, record-allowed, memory-fits, step-accepted, sound-fresh, opened, eeprom-size}
 use Rattle.cart.proofs.Tallies.{Fit, tallies-fit, tallies-stay, right-memory, right-fresh, right-fit}
 use Rattle.cart.proofs.Restore.{restoring, restore-accepted}
@@ -67,7 +69,7 @@ pub export-accepted : (d : List ℕ) (s : State) → recordAllowed (s .cart) ≡
 unfolding questions accepted storeOf
 export-accepted d s a b e = step-accepted saveData d s (a, (b, (file-fits (s .cart .kind) s d e, tt))) ∙ accepted-kept saveData d s refl
 
-pub state-accepted : (s : State) → recordAllowed (s .cart) ≡ true → step chipState [] s ≡ outcome (stateBytes (s .cart)) s []
+pub state-accepted : (s : State) → recordAllowed (s .cart) ≡ true → step chipState [] s ≡ outcome (stateBytes (s .cart .chip) (s .cart .dirty)) s []
 unfolding questions accepted storeOf
 state-accepted s a = step-accepted chipState [] s (a, tt) ∙ accepted-kept chipState [] s refl
 
@@ -78,7 +80,7 @@ file-left s a b =
     ap (λ (o : Outcome). fileIn (o .given) (o .destination)) (export-accepted d s a b (simp length-replicate (omega arith)))
     ∙ file-in (fileOf (s .cart .kind) s) d s
 
-pub bytes-left : (s : State) → recordAllowed (s .cart) ≡ true → bytesLeft s ≡ stateBytes (s .cart)
+pub bytes-left : (s : State) → recordAllowed (s .cart) ≡ true → bytesLeft s ≡ stateBytes (s .cart .chip) (s .cart .dirty)
 unfolding bytesLeft
 bytes-left s a = ap (λ (o : Outcome). o .given) (state-accepted s a)
 
@@ -210,20 +212,20 @@ acc-lt s k =
     omega (arith, pow-mono n, k .eepromOk .serialOk .accOk)
 
 -- the flag that the state of s leaves in a cartridge like t
-flag-left : (v : Carried) (s t : State) → flagFrom (carried v (stateBytes (s .cart))) (t .cart .dirty) ≡ flagOf v s t
-flag-left eighteen s t = old-flag (s .cart) (t .cart .dirty)
-flag-left twenty s t = own-flag (s .cart) (t .cart .dirty)
+flag-left : (v : Carried) (s t : State) → flagFrom (carried v (stateBytes (s .cart .chip) (s .cart .dirty))) (t .cart .dirty) ≡ flagOf v s t
+flag-left eighteen s t = old-flag (s .cart .chip) (s .cart .dirty) (t .cart .dirty)
+flag-left twenty s t = own-flag (s .cart .chip) (s .cart .dirty) (t .cart .dirty)
 
 -- the state s made anew of a cartridge of the image
 pub resumed-is : (image : List ℕ) (part : ℕ) (v : Carried) (s t : State) → Recoverable image part s → Open image part t → resumed v s t ≡ withFlag (flagOf v s t) s
 resumed-is image part v s t r q =
     let k = r .sound in
     let a = record-allowed s k in
-    let b : List ℕ = carried v (stateBytes (s .cart)) in
+    let b : List ℕ = carried v (stateBytes (s .cart .chip) (s .cart .dirty)) in
     let kind : SaveType = detectSaveType image in
     let o : Option (List ℕ) = fileOf kind s in
     let x = loaded o t (q .allowed) (eq-eqb _ _ (q .memoryOk)) (right-fit t (q .talliesOk)) in
-    let c = own-restored v (s .cart) (acc-lt s k) in
+    let c = own-restored v (s .cart .chip) (s .cart .dirty) (acc-lt s k) in
     let g = flag-left v s t in
     let m = memory-back image part s r (t .memory) kind (r .kindIs) (q .memoryOk ∙ ap memorySize (q .kindIs)) in
     let ts =
@@ -231,7 +233,7 @@ resumed-is image part v s t r q =
     ∙ ap₂ (λ (i : SaveType) (l : List ℕ). talliesOf (tallyCount i) l) (q .kindIs ∙ sym (r .kindIs)) m
     in
     ap₂ (λ (l : List ℕ) (f : Option (List ℕ)). restore (carried v l) (reloaded f t) .next) (bytes-left s a) (file-left s a (memory-fits s k) ∙ ap (λ (i : SaveType). fileOf i s) (r .kindIs))
-    ∙ restore-next b (reloaded o t) (x .allowed) (own-questions v (s .cart) (chip-allowed (s .cart .chip) (k .flashOk) (k .eepromOk)))
+    ∙ restore-next b (reloaded o t) (x .allowed) (own-questions v (s .cart .chip) (s .cart .dirty) (chip-allowed (s .cart .chip) (k .flashOk) (k .eepromOk)))
     ∙ ap (restoring b) (x .is)
     ∙ (λ i.
     record {

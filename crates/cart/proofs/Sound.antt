@@ -32,7 +32,7 @@ use Rattle.eeprom.proofs.Fits.{write-fits}
 use Rattle.cart.specs.Record.{State, Outcome, outcome, counted, recordAllowed, freshCart, fresh, openQuestions, fromBytes}
 use Rattle.cart.specs.Calls.{Call, saveRead, saveWrite, eepromBeginDma, eepromWrite, eepromRead, loadSave, saveData, chipState, takeSaveDirty}
 use Rattle.cart.specs.Calls.{stateWith, flashOf, withFlash, eepromOf, withEeprom, withChip, writeSave, load, fileOf, exported, questions, accepted, step}
-use Rattle.cart.proofs.ChipState.{chip-allowed}
+use Rattle.chip_record.proofs.ChipState.{chip-allowed}
 
 -- image length, part, memory length and flash chip are right, and E holds of the serial chip
 pub record SoundBy (E : Eeprom → Type 0) (s : State) : Type 0 where

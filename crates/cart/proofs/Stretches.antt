@@ -18,7 +18,7 @@ use Rattle.kind.specs.declared.SaveType.the-variants.{None, Sram, Flash64, Flas
 use Rattle.kind.specs.Kind.{tallyCount}
 use Rattle.kind.proofs.Sizes.{whole-stretches}
 use Rattle.part.specs.Part.{partOf}
-use Rattle.cart.specs.declared.ChipRecord.{ChipRecord}
+use Rattle.chip_record.specs.declared.ChipRecord.{ChipRecord}
 use Rattle.cart.specs.Record.{State, Outcome, counted, recordAllowed, fresh, fromBytes}
 use Rattle.cart.specs.Calls.{Call, saveRead, saveWrite, eepromBeginDma, eepromWrite, eepromRead, loadSave, saveData, chipState, takeSaveDirty}
 use Rattle.cart.specs.Calls.{chipWith, stateWith, readSave, writeSave, load, fileOf, exported, questions, accepted, step, restoreQuestions, restore, importQuestions, importSave, tallyQuestions, isBlank, inUse}

@@ -12,7 +12,7 @@ use Rattle.counts.proofs.Retallied.{length-retallied, words-retallied, retallie
 use Rattle.kind.specs.Kind.{tallyCount, memorySize, detectSaveType}
 use Rattle.memory.specs.Memory.{erased}
 use Rattle.part.specs.declared.Part.{Part}
-use Rattle.cart.specs.declared.ChipRecord.{ChipRecord}
+use Rattle.chip_record.specs.declared.ChipRecord.{ChipRecord}
 use Rattle.cart.specs.Record.{State, freshCart, fresh}
 use Rattle.cart.specs.Calls.{Call, chipWith, stateWith, accepted, step, restore, importSave}
 use Rattle.cart.specs.Stretches.{TalliesRight, withTallies}

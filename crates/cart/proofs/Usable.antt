@@ -13,10 +13,12 @@ use Rattle.kind.specs.Kind.{memorySize, tallyCount}
 use Rattle.part.specs.Part.{partFits}
 use Rattle.eeprom.specs.Eeprom.{wOf, countLimit}
 use Rattle.eeprom.proofs.Allowed.{Allowed, allowed-bit, allowed-read, allowed-dma, allowed-load}
-use Rattle.cart.specs.Record.{State, chipAllowed, recordAllowed}
+use Rattle.cart.specs.Record.{State, recordAllowed}
+use Rattle.chip_record.specs.ChipState.{chipAllowed}
 use Rattle.cart.specs.Calls.{Call, loadSave, load, questions, accepted, step}
 use Rattle.cart.specs.Gbatek.{Usable}
-use Rattle.cart.proofs.Fields.{chip-fields, allowed-bounds}
+use Rattle.chip_record.proofs.Fields.{chip-fields}
+use Rattle.cart.proofs.Bounds.{allowed-bounds}
 use Rattle.cart.proofs.Sound.{SoundBy, Keeps, accepted-by, step-by}
 use Rattle.cart.proofs.Changes.{load-keeps}
 use Rattle.cart.proofs.Tallies.{Fit, fit-chip, fit-memory, fit-step, tallies-fit}

@@ -20,10 +20,10 @@ use Rattle.flash.specs.declared.Flash.{Flash}
 use Rattle.byte_step.specs.ByteStep.{readByte, afterWrite}
 use Rattle.eeprom.specs.declared.Eeprom.{Eeprom}
 use Rattle.eeprom.specs.Eeprom.{told, beginDma, dmaQuestion, bitIn, readBit, afterRead}
-use Rattle.cart.specs.declared.ChipRecord.{ChipRecord}
+use Rattle.chip_record.specs.declared.ChipRecord.{ChipRecord}
 use Rattle.cart.specs.declared.Cartridge.{Cartridge}
-use Rattle.cart.specs.ChipState.{chipOf}
-use Rattle.cart.specs.States.{stateBytes, eighteenOf, flagFrom, stateQuestions}
+use Rattle.chip_record.specs.ChipState.{chipOf}
+use Rattle.chip_record.specs.States.{stateBytes, eighteenOf, flagFrom, stateQuestions}
 use Rattle.cart.specs.Record.{State, Outcome, guarded, outcome, outcomeOf, counted}
 use Rattle.cart.specs.Record.{recordQuestion, memoryQuestion, tallyQuestion}
 
@@ -145,7 +145,7 @@ accepted eepromRead d s =
     (withChip s (afterRead (s .cart .chip .eeprom))) d
 accepted (loadSave f) d s = outcome [] (load s f) d
 accepted saveData d s = exported (fileOf (s .cart .kind) s) d s
-accepted chipState d s = outcome (stateBytes (s .cart)) s d
+accepted chipState d s = outcome (stateBytes (s .cart .chip) (s .cart .dirty)) s d
 accepted takeSaveDirty d s =
     outcomeOf 0 [] (s .cart .dirty) 0 (chipWith s false (s .cart .chip)) d
 

@@ -1,7 +1,7 @@
 -- What is claimed of a state's bytes, of the changed flag and of the part.
 use mathlib.Core.Path.{_≡_}
 use mathlib.Core.Logic.{_≢_}
-use mathlib.Core.Bool.{Bool, true, false}
+use mathlib.Core.Bool.{Bool, true, false, cond}
 use mathlib.Core.List.{List, [], _∷_, _++_}
 use Prim.Native.Nat.{ℕ, _^_, _<_}
 use lib.Dec.{eqb}
@@ -11,9 +11,9 @@ use Rattle.lists.specs.Lists.{bit}
 use Rattle.lists.specs.Questions.{FirstNo}
 use Rattle.part.specs.declared.Part.{Part}
 use Rattle.part.specs.Part.{partOf, partFits}
-use Rattle.cart.specs.declared.ChipRecord.{ChipRecord}
-use Rattle.cart.specs.ChipState.{chipRecordSize}
-use Rattle.cart.specs.States.{stateSize, flagAt, layoutNumber, eighteenOf}
+use Rattle.chip_record.specs.declared.ChipRecord.{ChipRecord}
+use Rattle.chip_record.specs.ChipState.{chipRecordSize}
+use Rattle.chip_record.specs.States.{stateSize, flagAt, layoutNumber, eighteenOf}
 use Rattle.cart.specs.Record.{State, Outcome, outcomeOf, outcome, recordAllowed, fromBytes}
 use Rattle.cart.specs.Calls.{Call, saveRead, loadSave, chipState, takeSaveDirty}
 use Rattle.cart.specs.Calls.{chipWith, restoreQuestions, step, restore, importSave}
@@ -42,10 +42,8 @@ pub record FlagKept : Type 0 where
   pub stays : (c : Call) (d : List ℕ) (s : State) → c ≢ takeSaveDirty → s .cart .dirty ≡ true
       → step c d s .next .cart .dirty ≡ true
   pub load : (f d : List ℕ) (s : State) → step (loadSave f) d s .next .cart .dirty ≡ s .cart .dirty
-  pub restored : (b : List ℕ) (s : State) → restore b s .refusal ≡ 0 → length b ≡ stateSize
-      → restore b s .next .cart .dirty ≡ eqb (getD b flagAt 0) 1
-  pub restoredOld : (b : List ℕ) (s : State) → length b ≡ chipRecordSize
-      → restore b s .next .cart .dirty ≡ s .cart .dirty
+  pub restored : (b : List ℕ) (s : State) → restore b s .refusal ≡ 0
+      → restore b s .next .cart .dirty ≡ cond (eqb (length b) stateSize) (eqb (getD b flagAt 0) 1) (s .cart .dirty)
   pub imported : (f : List ℕ) (s : State) → importSave f s .next .cart .dirty ≡ s .cart .dirty
 
 -- a state, and an outcome's, with another part

@@ -6,7 +6,7 @@ use mathlib.Core.Option.{Option, none, some}
 use Prim.Native.Nat.{ℕ, _+_}
 use lib.ListN.{length, take, drop, replicate}
 use Rattle.kind.specs.Kind.{usesEeprom, detectSaveType}
-use Rattle.cart.specs.States.{flagAt, eighteenOf}
+use Rattle.chip_record.specs.States.{flagAt, Carried, eighteen, twenty, carried}
 use Rattle.cart.specs.Record.{State, Outcome, fromBytes}
 use Rattle.cart.specs.Calls.{Call, saveWrite, loadSave, saveData, chipState, step, restore}
 
@@ -22,15 +22,6 @@ fileLeft s = let o = step saveData (replicate (length (s .memory)) 0) s in fileI
 -- "and the 18 bytes of `chip_state`": 20 with layout 2
 unfoldable pub bytesLeft : State → List ℕ
 bytesLeft s = step chipState [] s .given
-
--- what a cut carries of them: "Where each cut carries layout 2 .. where one carries 18 bytes"
-pub data Carried : Type 0 where
-  eighteen : Carried
-  twenty : Carried
-
-abbrev pub carried : Carried → List ℕ → List ℕ
-carried eighteen b = eighteenOf b
-carried twenty b = b
 
 -- "Then: open the same image, load the file where there is one, restore."; the opening is given the same part
 abbrev pub reloaded : Option (List ℕ) → State → State

@@ -1,5 +1,3 @@
-pub mod ChipState
-pub mod States
 pub mod Record
 pub mod Calls
 pub mod Replies

@@ -15,9 +15,9 @@ use Rattle.part.specs.declared.Part.{Part}
 use Rattle.part.specs.declared.Part.the-variants.{Usual}
 use Rattle.part.specs.Part.{partOf, partFits, numberFits}
 use Rattle.eeprom.specs.declared.EepromPhase.the-variants.{Opcode}
-use Rattle.cart.specs.declared.ChipRecord.{ChipRecord}
+use Rattle.chip_record.specs.declared.ChipRecord.{ChipRecord}
 use Rattle.cart.specs.declared.Cartridge.{Cartridge}
-use Rattle.cart.specs.ChipState.{chipBytes, fieldQuestions}
+use Rattle.chip_record.specs.ChipState.{chipAllowed}
 
 -- a cartridge record with the memory and the tallies that are passed with it
 pub record State : Type 0 where
@@ -56,11 +56,7 @@ counted s o =
 abbrev pub guarded : List Question → List ℕ → State → Outcome → Outcome
 guarded qs d s o = cond (eqb (asked qs) 0) o (refused (asked qs) s d)
 
--- 2: "Is the record's image length in that range and each chip field allowed?": the fields are such as restore takes
-abbrev pub chipAllowed : ChipRecord → Bool
-chipAllowed chip = eqb (asked (fieldQuestions (chipBytes chip))) 0
-
--- "A record whose named part does not have its kind's size is a no at question 2."
+-- 2: "Is the record's image length in that range and each chip field allowed?" 02, ticket 1: "A record whose named part does not have its kind's size is a no at question 2."
 unfoldable pub recordAllowed : Cartridge → Bool
 recordAllowed c = imageLength (c .len) && partFits (c .part) (c .kind) && chipAllowed (c .chip)
 

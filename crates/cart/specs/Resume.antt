@@ -9,7 +9,8 @@ use Rattle.part.specs.Part.{partOf}
 use Rattle.cart.specs.Record.{State, recordAllowed, fromBytes}
 use Rattle.cart.specs.Calls.{Call, saveWrite, chipWith}
 use Rattle.cart.specs.Stretches.{TalliesRight}
-use Rattle.cart.specs.Cut.{Carried, eighteen, twenty, resumed, cut}
+use Rattle.chip_record.specs.States.{Carried, eighteen, twenty}
+use Rattle.cart.specs.Cut.{resumed, cut}
 use Rattle.cart.specs.Gbatek.{calls}
 
 -- a cartridge of the image with the part, whatever its chip, its memory and its flag hold; its tallies are the memory's

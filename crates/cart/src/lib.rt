@@ -1,39 +1,20 @@
-// The cartridge: its records, their bytes, the questions at the door, and in specs/ the machine of document 01.
+// The cartridge: its record, the questions at the door, and in specs/ the machine of document 01.
 
-pub mod layout;
 mod questions;
-mod state_bytes;
-mod states;
 
+use chip_record::ChipRecord;
 use eeprom::Eeprom;
 use eeprom::EepromPhase;
 use flash::Flash;
 use kind::SaveType;
-pub use layout::CHIP_SIZE;
-pub use layout::STATE_SIZE;
-pub use layout::StateBytes;
 use part::Part;
 pub use questions::door;
 pub use questions::record_allowed;
 pub use questions::store_door;
-pub use state_bytes::chip_bytes;
-pub use state_bytes::chip_of;
-pub use state_bytes::field_questions;
-pub use state_bytes::phase_number;
-pub use states::chip_in;
-pub use states::flag_from;
-pub use states::state_of;
-pub use states::state_questions;
 ghost use mathlib.Core.Path.{_≡_};
 ghost use Rattle.cart.specs.Record.{freshChip, isLarge, freshCart};
 ghost use Rattle.cart.specs.Replies.{reply, done as done·spec, stored as stored·spec, refused};
 ghost use Rattle.cart.specs.Replies.{chipRecord, cartWith};
-
-// The first 18 bytes of `chip_state`.
-pub struct ChipRecord {
-    pub flash: Flash,
-    pub eeprom: Eeprom,
-}
 
 pub struct Cartridge {
     // the image's length

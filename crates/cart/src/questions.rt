@@ -1,32 +1,7 @@
 // Questions 2, 3 and 16.
 use crate::Cartridge;
-use crate::ChipRecord;
 ghost use mathlib.Core.Path.{_≡_};
-ghost use Rattle.cart.specs.Record.{chipAllowed, recordAllowed, doorNumber, storeDoorNumber};
-
-fn chip_allowed(chip: ChipRecord) -> bool
-    ensures { λ r. ⌜ r ≡ chipAllowed chip ⌝ }
-{
-    let flash = chip.flash;
-    let e = chip.eeprom;
-    let phase = e.phase;
-    if !flash::state_allowed(flash.state) {
-        return false;
-    }
-    if 1 < flash.bank {
-        return false;
-    }
-    if !eeprom::width_allowed(e.width) {
-        return false;
-    }
-    if 1023 < e.block {
-        return false;
-    }
-    if 67 < e.place {
-        return false;
-    }
-    e.count < eeprom::count_limit(phase, eeprom::w(e.width, e.large))
-}
+ghost use Rattle.cart.specs.Record.{recordAllowed, doorNumber, storeDoorNumber};
 
 pub fn record_allowed(cart: Cartridge) -> bool
     ensures { λ r. ⌜ r ≡ recordAllowed cart ⌝ }
@@ -40,7 +15,7 @@ pub fn record_allowed(cart: Cartridge) -> bool
         return false;
     }
     let chip = cart.chip;
-    chip_allowed(chip)
+    chip_record::chip_allowed(chip)
 }
 
 // Questions 2 and 3 of a record with a memory of n bytes: the first number that applies, or 0.

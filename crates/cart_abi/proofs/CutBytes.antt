@@ -19,12 +19,13 @@ use Rattle.kind.specs.Kind.{memorySize, usesEeprom, detectSaveType}
 use Rattle.part.specs.Part.{partOf}
 use Rattle.file_sizes.specs.SaveFit.{keptPart}
 use Rattle.cart.specs.declared.Cartridge.{Cartridge}
-use Rattle.cart.specs.ChipState.{chipOf}
+use Rattle.chip_record.specs.ChipState.{chipOf}
 use Rattle.cart.specs.Record.{State, Outcome, recordAllowed, fresh, fromBytes}
 use Rattle.cart.specs.Calls as machine
 use Rattle.cart.specs.Calls.{Call, step, restore, load, fileOf, exported, importQuestions}
 use Rattle.cart.specs.Cut as uncutMachine
-use Rattle.cart.specs.Cut.{Carried, carried, flagLeftOut}
+use Rattle.chip_record.specs.States.{Carried, carried}
+use Rattle.cart.specs.Cut.{flagLeftOut}
 use Rattle.cart.specs.Resume.{Open, withFlag, flagOf}
 use Rattle.cart.specs.Replies.{tallied, first}
 use Rattle.cart.specs.Stretches.{takesTallies, withTallies, besideTallies}

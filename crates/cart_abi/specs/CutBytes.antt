@@ -15,7 +15,8 @@ use Rattle.cart.specs.Record.{State, Outcome, fromBytes}
 use Rattle.cart.specs.Calls as machine
 use Rattle.cart.specs.Calls.{step}
 use Rattle.cart.specs.Cut.{fileLeft as machineFile, bytesLeft as machineState}
-use Rattle.cart.specs.Cut.{Carried, carried, carriesFlag, flagLeftOut}
+use Rattle.chip_record.specs.States.{Carried, carried}
+use Rattle.cart.specs.Cut.{carriesFlag, flagLeftOut}
 use Rattle.cart.specs.Resume.{Open}
 use Rattle.cart.specs.Replies.{first}
 use Rattle.c_record.specs.RecordBytes.{isRecord, stateOf}

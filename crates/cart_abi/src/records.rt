@@ -1,6 +1,6 @@
 // The calls on a record.
 use c_record::RecordBytes;
-use cart::StateBytes;
+use chip_record::StateBytes;
 ghost use mathlib.Core.Path.{_≡_};
 ghost use mathlib.Core.List.{List};
 ghost use Prim.Native.Nat.{ℕ};

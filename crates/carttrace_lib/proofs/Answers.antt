@@ -11,8 +11,8 @@ use Rattle.lists.specs.Questions.{Question, asked}
 use Rattle.lists.proofs.Bools.{cases}
 use Rattle.hex.specs.Hex.{hex}
 use Rattle.cart.specs.declared.Cartridge.{Cartridge}
-use Rattle.cart.specs.ChipState.{chipBytes}
-use Rattle.cart.specs.States.{stateBytes, eighteenOf}
+use Rattle.chip_record.specs.ChipState.{chipBytes}
+use Rattle.chip_record.specs.States.{stateBytes, eighteenOf}
 use Rattle.cart.specs.Record.{State, Outcome, guarded, outcome, counted}
 use Rattle.cart.specs.Calls.{Call, questions, accepted, step, saveRead, saveWrite, eepromBeginDma, eepromWrite, eepromRead, chipState}
 use Rattle.cart.specs.Replies.{state, tallied, replyOf}

@@ -7,8 +7,8 @@ use Rattle.image.specs.Image.{imageLength}
 use Rattle.part.specs.Part.{partFits}
 use Rattle.flash.specs.Flash.{stateAllowed}
 use Rattle.eeprom.specs.Eeprom.{widthAllowed, w, tells6, tells14, beginDma, dmaQuestion, readBit, afterRead}
-use Rattle.cart.specs.ChipState.{phaseOf, chipBytes, fieldQuestions}
-use Rattle.cart.specs.States.{stateBytes}
+use Rattle.chip_record.specs.ChipState.{phaseOf, chipBytes, fieldQuestions}
+use Rattle.chip_record.specs.States.{stateBytes}
 use Rattle.cart.specs.Record.{recordAllowed, freshCart}
 use Rattle.cart.specs.Calls.{readSave, questions, accepted, step}
 use Rattle.byte_step.specs.ByteStep.{readByte}

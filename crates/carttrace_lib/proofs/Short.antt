@@ -6,7 +6,7 @@ use lib.Dec.{eqb}
 use lib.ListN.{length, length-take}
 use Rattle.lists.specs.Questions.{asked}
 use Rattle.lists.proofs.Bools.{either}
-use Rattle.cart.specs.ChipState.{chipRecordSize}
+use Rattle.chip_record.specs.ChipState.{chipRecordSize}
 use Rattle.cart.specs.Record.{State, Outcome}
 use Rattle.cart.specs.Calls.{Call, questions, accepted, step, saveRead, saveWrite, eepromBeginDma, eepromWrite, eepromRead, chipState, takeSaveDirty}
 use Rattle.frames.specs.declared.Frame.{Frame}

@@ -11,8 +11,8 @@ use Rattle.kind.specs.Kind.{memorySize, tallyCount}
 use Rattle.part.specs.declared.Part.the-variants.{Usual}
 use Rattle.cart.specs.declared.Cartridge.{Cartridge}
 use Rattle.cart.specs.declared.Reply.{Reply}
-use Rattle.cart.specs.ChipState.{chipRecordSize}
-use Rattle.cart.specs.States.{eighteenOf}
+use Rattle.chip_record.specs.ChipState.{chipRecordSize}
+use Rattle.chip_record.specs.States.{eighteenOf}
 use Rattle.cart.specs.Record.{State, Outcome, freshCart}
 use Rattle.cart.specs.Calls.{saveRead, saveWrite, eepromBeginDma, eepromWrite, eepromRead}
 use Rattle.cart.specs.Calls.{chipState, takeSaveDirty, step}

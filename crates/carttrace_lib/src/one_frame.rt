@@ -1,16 +1,16 @@
 // A frame, played as its call, and the answer as a line.
 
 use crate::Played;
-use cart::CHIP_SIZE;
 use cart::Cartridge;
 use cart::Reply;
+use chip_record::CHIP_SIZE;
 use frames::Frame;
 use state_calls::StateAnswer;
 ghost use mathlib.Core.Path.{_≡_};
 ghost use mathlib.Core.List.{[]};
 ghost use Prim.Native.Nat.{_≤_};
 ghost use lib.ListN.{length};
-ghost use Rattle.cart.specs.States.{stateSize};
+ghost use Rattle.chip_record.specs.States.{stateSize};
 ghost use Rattle.cart.specs.Replies.{tallied};
 ghost use Rattle.frames.specs.Frames.{lineOf};
 ghost use Rattle.carttrace_lib.specs.Trace.{longestLine, play as play·spec, statusLine, valueLine, stateLine};

@@ -9,7 +9,7 @@ use Rattle.lists.specs.Questions.{asked}
 use Rattle.lists.proofs.Bools.{split, either}
 use Rattle.kind.specs.declared.SaveType.{SaveType}
 use Rattle.part.specs.declared.Part.{Part}
-use Rattle.cart.specs.declared.ChipRecord.{ChipRecord}
+use Rattle.chip_record.specs.declared.ChipRecord.{ChipRecord}
 use Rattle.cart.specs.Record.{State, Outcome}
 use Rattle.cart.specs.Calls.{eepromWrite, questions, accepted, step}
 use Rattle.cart.specs.Replies.{tallied, storeReplied}

@@ -6,7 +6,7 @@ use mathlib.Core.List.{List}
 use Prim.Native.Nat.{ℕ}
 use Rattle.kind.specs.declared.SaveType.{SaveType}
 use Rattle.part.specs.declared.Part.{Part}
-use Rattle.cart.specs.declared.ChipRecord.{ChipRecord}
+use Rattle.chip_record.specs.declared.ChipRecord.{ChipRecord}
 use Rattle.chip_by_reference.specs.Lent.{plainCall, apart, together}
 
 pub record ThinCall (len : ℕ) (kind : SaveType) (part : Part) (dirty : Bool)

@@ -1,7 +1,7 @@
 // The serial bit in on a chip record apart from the cartridge record: by value, and by `&mut`.
 
 use cart::Cartridge;
-use cart::ChipRecord;
+use chip_record::ChipRecord;
 use kind::SaveType;
 use part::Part;
 ghost use mathlib.Core.Path.{_≡_};

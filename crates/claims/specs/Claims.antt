@@ -14,7 +14,7 @@ use Rattle.matcher.specs.Claims.{SingleReading, InPieces}
 use Rattle.file_sizes.specs.Claims.{LargestKept}
 use Rattle.flash.specs.Gbatek.{FlashChipClaim}
 use Rattle.eeprom.specs.Gbatek.{SerialChipClaim, OpcodeLost, Abandons}
-use Rattle.cart.specs.declared.ChipRecord.{ChipRecord}
+use Rattle.chip_record.specs.declared.ChipRecord.{ChipRecord}
 use Rattle.cart.specs.Gbatek.{SramClaim, FlashClaim, SerialBitsClaim, SerialClaim, UsableStates}
 use Rattle.cart.specs.Claims.{StateBytes, FlagKept, PartKept}
 use Rattle.cart.specs.Counts.{Counts}

@@ -13,8 +13,8 @@ use Rattle.lists.proofs.Parts.{front-of, length-into}
 use Rattle.kind.specs.Kind.{memorySize}
 use Rattle.cart.specs.declared.Cartridge.{Cartridge}
 use Rattle.cart.specs.declared.Reply.{Reply}
-use Rattle.cart.specs.ChipState.{chipBytes}
-use Rattle.cart.specs.States.{stateBytes}
+use Rattle.chip_record.specs.ChipState.{chipBytes}
+use Rattle.chip_record.specs.States.{stateBytes}
 use Rattle.cart.specs.Record.{State, Outcome, recordAllowed}
 use Rattle.cart.specs.Calls.{saveData, chipState, fileOf, holds, exported, step, restore}
 use Rattle.cart.specs.Cut.{fileLeft, bytesLeft, reloaded}

@@ -7,7 +7,8 @@ ghost use Prim.Native.Nat.{_≤_};
 ghost use lib.ListN.{length};
 ghost use Rattle.kind.specs.Kind.{memorySize};
 ghost use Rattle.cart.specs.Record.{recordAllowed};
-ghost use Rattle.cart.specs.Cut.{twenty, cut as cut·spec};
+ghost use Rattle.chip_record.specs.States.{twenty};
+ghost use Rattle.cart.specs.Cut.{cut as cut·spec};
 ghost use Rattle.cart.specs.Replies.{tallied};
 ghost use Rattle.cut_call.specs.Loads.{loadedFrom, resumed};
 

@@ -6,7 +6,7 @@ use Prim.Native.Nat.{ℕ, _+_}
 use lib.Dec.{eqb}
 use lib.ListN.{length, getD, take, drop}
 use Rattle.lists.specs.Lists.{into}
-use Rattle.cart.specs.ChipState.{chipRecordSize}
+use Rattle.chip_record.specs.ChipState.{chipRecordSize}
 use Rattle.frames.specs.Frames.{lineOf}
 use Rattle.call_list.specs.declared.Item.{Item}
 use Rattle.call_list.specs.declared.Item.the-variants.{SaveRead, SaveWrite, EepromRead, EepromWrite, BeginDma}

@@ -2,13 +2,13 @@
 use crate::lines::line_length;
 use crate::lines::read_line;
 use call_list::Item;
-use cart::CHIP_SIZE;
+use chip_record::CHIP_SIZE;
 ghost use mathlib.Core.Path.{_≡_};
 ghost use mathlib.Core.List.{[]};
 ghost use Prim.Native.Nat.{_+_, _*_, _≤_, min};
 ghost use lib.ListN.{length};
 ghost use Rattle.carttrace_lib.specs.Trace.{linesFrom};
-ghost use Rattle.cart.specs.States.{stateSize};
+ghost use Rattle.chip_record.specs.States.{stateSize};
 ghost use Rattle.call_list.specs.Items.{itemRoom, endingRoom};
 ghost use Rattle.cuttrace_lib.specs.Printing.{Shows, answerText, stateText, itemText, fileText};
 ghost use Rattle.cuttrace_lib.specs.Printing.{endingText, linesText, linesRoom};

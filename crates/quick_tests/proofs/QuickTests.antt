@@ -20,7 +20,7 @@ use Rattle.eeprom.specs.declared.EepromPhase.the-variants.{Opcode, ReadAddress,
 use Rattle.eeprom.specs.Eeprom.{widthAllowed, w, countLimit}
 use Rattle.eeprom.proofs.Sound.{limit-64}
 use Rattle.eeprom.proofs.Allowed.{w-le}
-use Rattle.cart.specs.ChipState.{phaseOf, fieldQuestions}
+use Rattle.chip_record.specs.ChipState.{phaseOf, fieldQuestions}
 use Rattle.c_record.specs.RecordBytes.{chipIn, cartOf, isRecord}
 use Rattle.c_record.proofs.RecordBytes.{chip-at}
 use Rattle.quick_tests.specs.QuickTests.{isKnown, FlashUsual, FieldsUsual, SerialRests, CountAllowed}

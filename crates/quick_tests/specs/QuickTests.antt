@@ -9,7 +9,7 @@ use Rattle.lists.specs.Lists.{lowValue}
 use Rattle.image.specs.Image.{imageLength}
 use Rattle.flash.specs.Flash.{stateAllowed}
 use Rattle.eeprom.specs.Eeprom.{widthAllowed, w, countLimit}
-use Rattle.cart.specs.ChipState.{phaseOf}
+use Rattle.chip_record.specs.ChipState.{phaseOf}
 use Rattle.c_record.specs.RecordBytes.{recordSize, kindAt, dirtyAt, partAt}
 use Rattle.c_record.specs.Fields.{flashStateAt, bankAt, idAt, widthAt, largeAt, phaseAt, countAt, blockAt, placeAt}
 

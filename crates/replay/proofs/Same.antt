@@ -14,7 +14,7 @@ use Rattle.kind.specs.Kind.{memorySize, tallyCount, usesEeprom, detectSaveType}
 use Rattle.part.specs.Part.{partOf, numberFits}
 use Rattle.cart.specs.Record.{State, Outcome, openQuestions, fromBytes, fresh}
 use Rattle.cart.specs.Calls.{Call, saveRead, saveWrite, eepromBeginDma, eepromWrite, eepromRead, loadSave, saveData, chipState, takeSaveDirty, step}
-use Rattle.cart.specs.Cut.{twenty}
+use Rattle.chip_record.specs.States.{twenty}
 use Rattle.cart.specs.Stretches.{withTallies}
 use Rattle.cart.proofs.Tallies.{right-fit}
 use Rattle.cart.proofs.Stretches.{stretches}

@@ -8,7 +8,8 @@ use Rattle.lists.specs.Lists.{into, bit}
 use Rattle.cart.specs.Record.{fromBytes}
 use Rattle.cart.specs.Calls.{Call, saveRead, saveWrite, eepromBeginDma, eepromWrite, eepromRead}
 use Rattle.cart.specs.Calls.{loadSave, saveData, chipState, takeSaveDirty}
-use Rattle.cart.specs.Cut.{Carried, twenty, Turn, Shown, Compared, run, uncut}
+use Rattle.chip_record.specs.States.{Carried, twenty}
+use Rattle.cart.specs.Cut.{Turn, Shown, Compared, run, uncut}
 use Rattle.cart.specs.Replies.{first}
 use Rattle.state_calls.specs.StateAnswer.{orZeros}
 use Rattle.call_list.specs.declared.Item.{Item}

@@ -13,7 +13,8 @@ use Rattle.cart.specs.declared.Reply.{Reply}
 use Rattle.cart.specs.Record.{State, Outcome, openQuestions, fromBytes}
 use Rattle.cart.specs.Calls.{saveRead, saveWrite, eepromBeginDma, eepromWrite, eepromRead}
 use Rattle.cart.specs.Calls.{loadSave, saveData, chipState, takeSaveDirty, step}
-use Rattle.cart.specs.Cut.{twenty, cut}
+use Rattle.chip_record.specs.States.{twenty}
+use Rattle.cart.specs.Cut.{cut}
 use Rattle.cart.specs.Replies.{first}
 use Rattle.state_calls.specs.StateAnswer.{orZeros}
 use Rattle.call_list.specs.declared.Item.{Item}

@@ -6,7 +6,7 @@ ghost use mathlib.Core.Path.{_≡_};
 ghost use mathlib.Core.List.{[], _∷_};
 ghost use Prim.Native.Nat.{_+_, _-_, _%_, _≤_};
 ghost use lib.ListN.{length};
-ghost use Rattle.cart.specs.States.{stateSize};
+ghost use Rattle.chip_record.specs.States.{stateSize};
 ghost use Rattle.cart.specs.Replies.{state, exportReplied};
 ghost use Rattle.replay.specs.Replay.{fourBytes, fileAnswer, exportInto};
 

@@ -2,7 +2,7 @@
 use mathlib.Core.List.{List, [], _∷_}
 use Prim.Native.Nat.{ℕ}
 use lib.ListN.{replicate}
-use Rattle.cart.specs.States.{stateSize}
+use Rattle.chip_record.specs.States.{stateSize}
 use Rattle.cart.specs.Record.{State, Outcome}
 use Rattle.state_calls.specs.declared.StateAnswer.{StateAnswer}
 

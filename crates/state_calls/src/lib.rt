@@ -3,8 +3,8 @@
 
 use cart::Cartridge;
 use cart::Reply;
-use cart::STATE_SIZE;
-use cart::StateBytes;
+use chip_record::STATE_SIZE;
+use chip_record::StateBytes;
 use image::Answer;
 use kind::SaveType;
 use part::Part;
@@ -80,7 +80,8 @@ pub fn chip_state(cart: Cartridge) -> StateAnswer
     if !cart::record_allowed(cart) {
         return state_answer(2, [0; STATE_SIZE]);
     }
-    state_answer(0, cart::state_of(cart))
+    let chip = cart.chip;
+    state_answer(0, chip_record::state_of(chip, cart.dirty))
 }
 
 pub fn restore_chip_state(cart: Cartridge, bytes: &[u8]) -> Reply
@@ -89,12 +90,12 @@ pub fn restore_chip_state(cart: Cartridge, bytes: &[u8]) -> Reply
     if !cart::record_allowed(cart) {
         return cart::refuse(2, cart);
     }
-    let refusal = cart::state_questions(bytes);
+    let refusal = chip_record::state_questions(bytes);
     if refusal != 0 {
         return cart::refuse(refusal, cart);
     }
-    let dirty = cart::flag_from(bytes, cart.dirty);
-    cart::done(0, cart::cart_with(cart, dirty, cart::chip_in(bytes)))
+    let dirty = chip_record::flag_from(bytes, cart.dirty);
+    cart::done(0, cart::cart_with(cart, dirty, chip_record::chip_in(bytes)))
 }
 
 pub fn take_save_dirty(cart: Cartridge) -> Reply

@@ -3,7 +3,7 @@ use mathlib.Core.Path.{sym, ap, ap₂, _∙_}
 use native.Mathlib.Omega.{arith}
 use Rattle.kind.specs.Kind.{memorySize, usesEeprom}
 use Rattle.eeprom.specs.declared.Eeprom.{Eeprom}
-use Rattle.cart.proofs.Fields.{allowed-bounds}
+use Rattle.cart.proofs.Bounds.{allowed-bounds}
 use Rattle.cart.proofs.Sound.{eeprom-size}
 use Rattle.c_record.specs.RecordBytes.{cartOf}
 use mathlib.Core.Bool.{Bool}

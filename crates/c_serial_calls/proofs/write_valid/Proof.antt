@@ -4,7 +4,7 @@ use native.Mathlib.Omega.{arith}
 use Rattle.kind.specs.Kind.{memorySize, tallyCount, usesEeprom}
 use Rattle.kind.proofs.Sizes.{whole-stretches}
 use Rattle.eeprom.specs.declared.Eeprom.{Eeprom}
-use Rattle.cart.proofs.Fields.{allowed-bounds}
+use Rattle.cart.proofs.Bounds.{allowed-bounds}
 use Rattle.cart.proofs.Sound.{eeprom-size}
 use Rattle.c_record.specs.RecordBytes.{cartOf}
 use Rattle.lists.proofs.Bools.{denied, granted}

@@ -51,9 +51,9 @@ use Rattle.kind.proofs.SaveType.Laws as K′
 use Rattle.part.specs.declared.Part.{Part}
 use Rattle.part.proofs.Part as P
 use Rattle.part.proofs.Part.Laws as P′
-use Rattle.cart.specs.declared.ChipRecord.{ChipRecord}
-use Rattle.cart.proofs.ChipRecord as T
-use Rattle.cart.proofs.ChipRecord.Laws as T′
+use Rattle.chip_record.specs.declared.ChipRecord.{ChipRecord}
+use Rattle.chip_record.proofs.ChipRecord as T
+use Rattle.chip_record.proofs.ChipRecord.Laws as T′
 use Rattle.chip_by_reference.specs.Lent.{plainCall, apart}
 use Rattle.chip_by_reference.specs.declared.ChipReply.{ChipReply}
 use Rattle.chip_by_reference.proofs.ChipReply as C′

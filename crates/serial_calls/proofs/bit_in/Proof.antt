@@ -10,7 +10,7 @@ use Rattle.eeprom.specs.declared.EepromStep.{EepromStep}
 use Rattle.eeprom.specs.Eeprom.{bitIn}
 use Rattle.eeprom.proofs.Fits.{write-fits}
 use Rattle.cart.specs.Calls.{accepted}
-use Rattle.cart.proofs.Fields.{allowed-bounds}
+use Rattle.cart.proofs.Bounds.{allowed-bounds}
 use Rattle.cart.proofs.Sound.{eeprom-size}
 use borrow.Author.Needs.{needs}
 use Rattle.serial_calls.proofs.bit_in.Statement.{statement}

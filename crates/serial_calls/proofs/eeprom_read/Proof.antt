@@ -9,7 +9,7 @@ use Rattle.cart.specs.Calls.{eepromRead, questions, accepted}
 use Rattle.cart.specs.Counts.{storeOf}
 use Rattle.cart.specs.Replies.{state, chipRecord, cartWith, done, replied}
 use Rattle.cart.proofs.Replies.{step-no, step-kept, door-yes}
-use Rattle.cart.proofs.Fields.{allowed-bounds}
+use Rattle.cart.proofs.Bounds.{allowed-bounds}
 use Rattle.cart.proofs.Sound.{eeprom-size}
 use Rattle.eeprom.specs.Eeprom.{readBit}
 use borrow.Author.Needs.{needs}

@@ -3,8 +3,8 @@ use mathlib.Core.Path.{refl, sym, ap, _∙_}
 use mathlib.Core.List.{[]}
 use native.Mathlib.Omega.{arith}
 use Rattle.lists.proofs.Bools.{denied, granted}
-use Rattle.cart.specs.ChipState.{chipBytes}
-use Rattle.cart.specs.States.{stateBytes}
+use Rattle.chip_record.specs.ChipState.{chipBytes}
+use Rattle.chip_record.specs.States.{stateBytes}
 use Rattle.cart.specs.Calls.{chipState, questions, accepted}
 use Rattle.cart.specs.Replies.{state}
 use Rattle.cart.proofs.Replies.{step-no, step-yes}
@@ -25,10 +25,10 @@ returns c =
 returns-2 : tie.Need-returns-2
 unfolding questions accepted stateBytes chipBytes
 returns-2 c =
-    let k = c .before .before .before .before .args .cart in
+    let k = c .before .before .before .before .before .args .cart in
     λ m.
     ap (λ (r : StateAnswer). (r, state k m)) (c .state-answer2 .ensures ∙ ap (stateAnswer 0) (c .before .state-of .ensures))
-    ∙ ap stateAnswered (sym (step-yes chipState [] (state k m) 0 (rw (granted _ (c .before .before .before .record-allowed .ensures) (c .before .before .if1 .left))) refl))
+    ∙ ap stateAnswered (sym (step-yes chipState [] (state k m) 0 (rw (granted _ (c .before .before .before .before .record-allowed .ensures) (c .before .before .before .if1 .left))) refl))
 
 pub chip-state-spec : {M : Type 1} → statement M
 chip-state-spec =

@@ -5,11 +5,11 @@ use mathlib.Core.List.{[]}
 use native.Mathlib.Omega.{arith}
 use Rattle.lists.proofs.Bools.{denied, granted}
 use Rattle.cart.specs.declared.Reply.{Reply}
-use Rattle.cart.specs.declared.ChipRecord.{ChipRecord}
+use Rattle.chip_record.specs.declared.ChipRecord.{ChipRecord}
 use Rattle.cart.specs.Record.{outcome}
 use Rattle.cart.specs.Calls.{restoreQuestions, restore}
 use Rattle.cart.specs.Replies.{state, cartWith, done, replied}
-use Rattle.cart.proofs.Layouts.{taken}
+use Rattle.chip_record.proofs.Layouts.{taken}
 use Rattle.cart.proofs.Restore.{restoring}
 use Rattle.cart.proofs.Replies.{guarded-no, guarded-yes}
 use borrow.Author.Needs.{needs}

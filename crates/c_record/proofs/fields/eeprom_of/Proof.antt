@@ -1,6 +1,6 @@
 -- `c_record::fields::eeprom_of` meets its contract. Assumes nothing.
 use mathlib.Core.Path.{ap}
-use Rattle.cart.specs.declared.ChipRecord.{ChipRecord}
+use Rattle.chip_record.specs.declared.ChipRecord.{ChipRecord}
 use Rattle.c_record.specs.RecordBytes.{cartOf}
 use borrow.Author.Needs.{needs}
 use Rattle.c_record.proofs.fields.eeprom_of.Statement.{statement}

@@ -5,7 +5,7 @@ use native.Mathlib.Omega.{arith}
 use lib.Seq.{length-take-le}
 use Rattle.lists.proofs.Bools.{denied, granted}
 use Rattle.cart.specs.Calls.{restore}
-use Rattle.cart.proofs.Layouts.{taken}
+use Rattle.chip_record.proofs.Layouts.{taken}
 use Rattle.c_record.specs.AtExit.{plain}
 use Rattle.c_record.proofs.RecordBytes.{are-bytes}
 use Rattle.c_record.proofs.Calls.{no-record}

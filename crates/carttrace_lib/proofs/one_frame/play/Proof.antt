@@ -2,7 +2,7 @@ use mathlib.Core.Path.{refl, ap, sym, _∙_}
 use mathlib.Core.List.{[]}
 use lib.ListN.{length}
 use Rattle.lists.specs.Lists.{into}
-use Rattle.cart.specs.States.{eighteenOf}
+use Rattle.chip_record.specs.States.{eighteenOf}
 use Rattle.cart.specs.Calls.{saveRead, eepromRead, eepromBeginDma, takeSaveDirty, chipState, step}
 use Rattle.cart.specs.Replies.{state, tallied, replied, flagReplied}
 use Rattle.cart.proofs.Stretches.{stretches}

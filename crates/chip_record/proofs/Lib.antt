@@ -1,0 +1,4 @@
+pub mod ChipState
+pub mod Fields
+pub mod Layouts
+pub mod Examples

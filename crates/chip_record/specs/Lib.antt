@@ -1,0 +1,2 @@
+pub mod ChipState
+pub mod States
