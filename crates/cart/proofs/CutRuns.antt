@@ -1,6 +1,6 @@
 -- Demand 3: a list of calls with its cuts shows what the list without them shows. Assumes nothing.
 use mathlib.Core.Path.{_≡_, refl, sym, ap, subst, _∙_}
-use mathlib.Core.Bool.{Bool, true, false, cond, _&&_}
+use mathlib.Core.Bool.{Bool, true, false, cond}
 use mathlib.Core.List.{List, [], _∷_, map, List·Memᴰ, List·Memᴰ·head, List·Memᴰ·tail}
 use mathlib.Core.Option.{Option, none, some}
 use Prim.Native.Nat.{ℕ}
@@ -14,12 +14,11 @@ use Rattle.kind.specs.Kind.{usesEeprom, detectSaveType}
 use Rattle.eeprom.specs.Eeprom.{bitIn}
 use Rattle.part.specs.Part.{partOf}
 use Rattle.chip_record.specs.ChipState.{chipBytes}
-use Rattle.chip_record.specs.States.{stateBytes}
+use Rattle.chip_record.specs.States.{stateBytes, Carried, eighteen, twenty}
 use Rattle.cart.specs.Record.{State, Outcome, outcome, outcomeOf, counted, recordAllowed, fresh, fromBytes}
 use Rattle.cart.specs.Calls.{Call, saveWrite, loadSave, saveData, chipState, saveRead, eepromBeginDma, eepromWrite, eepromRead, takeSaveDirty, readSave, writeSave, load, fileOf, exported, questions, accepted, step}
 use Rattle.cart.specs.Resume.{withFlag, flagOf}
 use Rattle.cart.specs.Cut.{fileLeft, bytesLeft, cut, cuts, Turn, Shown, shown, Compared, run, uncut, carriesFlag, allCarryFlag, flagLeftOut, answerSeen, seen, CutRuns}
-use Rattle.chip_record.specs.States.{Carried, eighteen, twenty}
 use Rattle.cart.proofs.Sound.{Sound, record-allowed, memory-fits, opened}
 use Rattle.cart.proofs.Recoverable.{Recoverable, NoByteWrite, clash, recoverable-step, recoverable-fresh}
 use Rattle.cart.proofs.Resume.{file-left, bytes-left, cut-is}

@@ -9,7 +9,7 @@ use lib.Dec.{eqb}
 use lib.ListN.{length}
 use lib.Pow.{areBytes}
 use lib.Seq.{take-all}
-use borrow.Author.Tests.{eqb-true, eq-eqb}
+use borrow.Author.Tests.{eqb-true}
 use Rattle.lists.specs.Lists.{bit}
 use Rattle.lists.specs.Questions.{Question, asked, FirstNo}
 use Rattle.lists.proofs.Bools.{split, and-left, and-right}
@@ -17,14 +17,12 @@ use Rattle.lists.proofs.Questions.{numbered, refused-first, all-yes, yes-all}
 use Rattle.image.specs.Image.{imageLength}
 use Rattle.part.specs.Part.{partFits}
 use Rattle.chip_record.specs.declared.ChipRecord.{ChipRecord}
-use Rattle.chip_record.specs.ChipState.{chipBytes, chipOf, fieldQuestions}
-use Rattle.chip_record.specs.States.{layoutNumber, stateBytes, eighteenOf, flagFrom, stateQuestions}
-use Rattle.chip_record.specs.States.{Carried, eighteen, twenty, carried}
+use Rattle.chip_record.specs.ChipState.{chipBytes, chipOf, fieldQuestions, chipAllowed}
+use Rattle.chip_record.specs.States.{layoutNumber, stateBytes, eighteenOf, flagFrom, stateQuestions, Carried, eighteen, twenty, carried}
 use Rattle.cart.specs.Record.{State, Outcome, outcome, recordAllowed}
-use Rattle.chip_record.specs.ChipState.{chipAllowed}
 use Rattle.cart.specs.Calls.{chipState, chipWith, restoreQuestions, questions, accepted, step, restore}
 use Rattle.cart.specs.Claims.{StateBytes}
-use Rattle.chip_record.proofs.Layouts.{own-questions, own-restored, own-flag, old-flag, Taken, taken, eighteen-back, twenty-back}
+use Rattle.chip_record.proofs.Layouts.{own-questions, own-restored, own-flag, old-flag, taken, eighteen-back, twenty-back}
 use Rattle.cart.proofs.Sound.{step-accepted}
 
 -- an allowed record's own questions

@@ -28,13 +28,12 @@ use Rattle.eeprom.specs.declared.EepromPhase.the-variants.{Opcode, ReadAddress,
 use Rattle.eeprom.specs.Eeprom.{widthAllowed, w, wOf, countLimit, told}
 use Rattle.eeprom.proofs.Sound as eeprom
 use Rattle.chip_record.specs.declared.ChipRecord.{ChipRecord}
-use Rattle.chip_record.specs.States.{stateBytes, flagFrom, stateQuestions}
+use Rattle.chip_record.specs.States.{stateBytes, flagFrom, stateQuestions, Carried, eighteen, twenty, carried}
 use Rattle.cart.specs.Record.{State, Outcome, outcome, recordAllowed, fresh, freshCart, fromBytes}
 use Rattle.chip_record.specs.ChipState.{chipAllowed}
 use Rattle.cart.specs.Calls.{Call, saveWrite, loadSave, saveData, chipState, stateWith, load, eepromFile, fileOf, exported, holds, questions, accepted, step, restore}
 use Rattle.cart.specs.Counts.{storeOf}
 use Rattle.cart.specs.Cut.{fileIn, fileLeft, bytesLeft, reloaded, resumed, cut}
-use Rattle.chip_record.specs.States.{Carried, eighteen, twenty, carried}
 use Rattle.cart.specs.Gbatek.{calls}
 use Rattle.cart.specs.Resume.{Open, withFlag, flagOf, Resumes}
 use Rattle.chip_record.proofs.ChipState.{chip-allowed}

@@ -16,8 +16,7 @@ use Rattle.eeprom.specs.Eeprom.{widthAllowed, w, wOf, countLimit}
 use Rattle.eeprom.proofs.Sound.{limit-64}
 use Rattle.eeprom.proofs.Allowed.{w-le}
 use Rattle.chip_record.specs.declared.ChipRecord.{ChipRecord}
-use Rattle.chip_record.specs.ChipState.{chipBytes, fieldQuestions}
-use Rattle.chip_record.specs.ChipState.{chipAllowed}
+use Rattle.chip_record.specs.ChipState.{chipBytes, fieldQuestions, chipAllowed}
 use Rattle.chip_record.proofs.ChipState.{phase-le, phase-back}
 
 -- the questions about state, flags, width, places and count, where the count's own limit tells that it is at most 64

@@ -5,7 +5,7 @@ use mathlib.Core.List.{List, [], _∷_, _++_}
 use Prim.Native.Nat.{ℕ, _≤_, _^_, _<_}
 use native.Mathlib.Omega.{arith}
 use lib.Dec.{leb, eqb}
-use lib.ListN.{length, getD, take, drop, take-append-drop, length-drop}
+use lib.ListN.{length, getD, drop, take-append-drop, length-drop}
 use lib.Pow.{areBytes}
 use lib.Seq.{take-all, length-take-le}
 use borrow.Author.Tests.{eqb-true, eqb-false, eq-eqb}
@@ -17,8 +17,7 @@ use Rattle.lists.proofs.Parts.{spells}
 use Rattle.lists.proofs.Questions.{AllYes, all-yes, yes-all, asked-no, asked-yes}
 use Rattle.chip_record.specs.declared.ChipRecord.{ChipRecord}
 use Rattle.chip_record.specs.ChipState.{chipBytes, chipOf, fieldQuestions}
-use Rattle.chip_record.specs.States.{layoutNumber, stateBytes, eighteenOf, flagFrom, lengthQuestion, layoutQuestion, flagQuestion, stateQuestions}
-use Rattle.chip_record.specs.States.{Carried, eighteen, twenty, carried}
+use Rattle.chip_record.specs.States.{layoutNumber, stateBytes, eighteenOf, flagFrom, lengthQuestion, layoutQuestion, flagQuestion, stateQuestions, Carried, eighteen, twenty, carried}
 use Rattle.chip_record.proofs.ChipState.{chip-back, bytes-back}
 
 -- a record's own state, and its first eighteen bytes

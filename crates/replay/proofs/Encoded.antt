@@ -15,9 +15,8 @@ use Rattle.kind.specs.Kind.{memorySize, usesEeprom, detectSaveType}
 use Rattle.cart.specs.Record.{State, Outcome, fromBytes}
 use Rattle.cart.specs.Calls.{Call, saveRead, saveWrite, eepromBeginDma, eepromWrite, eepromRead, loadSave, saveData, chipState, takeSaveDirty, exported, fileOf, step}
 use Rattle.chip_record.specs.ChipState.{chipBytes}
-use Rattle.chip_record.specs.States.{stateBytes}
+use Rattle.chip_record.specs.States.{stateBytes, Carried}
 use Rattle.cart.specs.Cut.{fileLeft, bytesLeft, cuts, Turn, Compared, run, uncut, shown, carriesFlag, allCarryFlag, seen}
-use Rattle.chip_record.specs.States.{Carried}
 use Rattle.cart.proofs.Sound.{record-allowed, memory-fits}
 use Rattle.cart.proofs.Recoverable.{Recoverable, recoverable-step}
 use Rattle.cart.proofs.Resume.{export-accepted, state-accepted, file-left, bytes-left}

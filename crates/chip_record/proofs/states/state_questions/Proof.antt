@@ -2,7 +2,7 @@
 use mathlib.Core.Path.{sym, _∙_}
 use native.Mathlib.Omega.{arith}
 use lib.Seq.{length-take-le}
-use borrow.Author.Tests.{eq-eqb, ne-eqb, le-leb, lt-leb}
+use borrow.Author.Tests.{ne-eqb, le-leb, lt-leb}
 use Rattle.chip_record.proofs.Layouts.{old-asked, new-asked, new-18}
 use borrow.Author.Needs.{needs}
 use Rattle.chip_record.proofs.states.state_questions.Statement.{statement}
