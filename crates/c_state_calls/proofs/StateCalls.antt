@@ -1,26 +1,27 @@
 -- Opening, `chip_state` and restore on a record's bytes. Assumes nothing.
 use mathlib.Core.Path.{_≡_, refl, sym, ap, ap₂, _∙_}
 use mathlib.Core.Logic.{_≢_}
-use mathlib.Core.Bool.{Bool, true, cond}
+use mathlib.Core.Bool.{Bool, true}
 use mathlib.Core.List.{List, [], _∷_, _++_, append-nil}
 use Prim.Native.Nat.{ℕ, suc, _≤_}
 use native.Mathlib.Omega.{arith}
 use lib.ListN.{length, getD, set, take, drop, length-take, length-drop, drop-of-length-le}
 use lib.Pow.{areBytes}
-use borrow.Author.Tests.{eqb-true, ne-eqb}
+use lib.Dec.{eqb}
+use borrow.Author.Tests.{ne-eqb}
 use Rattle.lists.specs.Lists.{bit, lowFirst, withPart, into}
 use Rattle.lists.specs.Questions.{asked}
-use Rattle.lists.proofs.Bools.{cases, bit-forth}
+use Rattle.lists.proofs.Bools.{bit-back}
 use Rattle.lists.proofs.Parts.{mid-part}
 use Rattle.chip_record.specs.declared.ChipRecord.{ChipRecord}
 use Rattle.cart.specs.declared.Cartridge.{Cartridge}
 use Rattle.cart.specs.declared.Reply.{Reply}
 use Rattle.chip_record.specs.ChipState.{chipBytes, chipOf}
-use Rattle.chip_record.specs.States.{stateBytes, isLayout2, eighteenOf, flagFrom, stateQuestions}
+use Rattle.chip_record.specs.States.{stateBytes, eighteenOf, flagFrom, stateQuestions}
 use Rattle.cart.specs.Record.{fromBytes}
 use Rattle.cart.specs.Calls.{chipState, questions, accepted, restore}
 use Rattle.cart.specs.Replies.{cartWith, storeReplied}
-use Rattle.chip_record.proofs.Layouts.{Taken, taken, eighteen-back}
+use Rattle.chip_record.proofs.Layouts.{taken, eighteen-back}
 use Rattle.c_record.specs.RecordBytes.{recordBytes, chipIn, cartOf, Valid}
 use Rattle.c_record.specs.AtExit.{called, stateAt}
 use Rattle.c_record.specs.Calls.{opens, givesState, restores}
@@ -78,12 +79,13 @@ flag-put : (c : Cartridge) (dirty : Bool) → set (recordBytes c) 5 (bit dirty) 
 unfolding recordBytes lowFirst
 flag-put c dirty = refl
 
--- where the state has a flag
-flag-or : (c : Cartridge) (b : List ℕ) → Taken b → cond (isLayout2 b) (set (recordBytes c) 5 (getD b 18 0)) (recordBytes c) ≡ recordBytes (cartWith c (flagFrom b (c .dirty)) (c .chip))
-flag-or c b t =
-    cases (isLayout2 b)
-    (λ l. rw l (ap (set (recordBytes c) 5) (sym (bit-forth (getD b 18 0) (t .flag (eqb-true (length b) 20 l)))) ∙ flag-put c _))
-    (λ l. rw l)
+flag-in : (c : Cartridge) → eqb (getD (recordBytes c) 5 0) 1 ≡ c .dirty
+unfolding recordBytes lowFirst
+flag-in c = bit-back (c .dirty)
+
+-- the flag of a state
+flag-from : (c : Cartridge) (b : List ℕ) → set (recordBytes c) 5 (bit (flagFrom b (eqb (getD (recordBytes c) 5 0) 1))) ≡ recordBytes (cartWith c (flagFrom b (c .dirty)) (c .chip))
+flag-from c b = ap (λ (f : Bool). set (recordBytes c) 5 (bit (flagFrom b f))) (flag-in c) ∙ flag-put c (flagFrom b (c .dirty))
 
 module _ (r : List ℕ) (v : Valid r) where
   pub state-yes : (m place : List ℕ) {given : List ℕ} → given ≡ chipIn r ++ (getD r 5 0 ∷ 2 ∷ []) → (0, r, m, given) ≡ givesState r m place
@@ -98,7 +100,7 @@ module _ (r : List ℕ) (v : Valid r) where
     unfolding called restore
     restore-no h = rw (v .yes, v .allowed, ← e, ne-eqb n 0 h) (λ i. (n, sym (v .back) i, m))
 
-    pub restore-yes : {r' r'' : List ℕ} → n ≡ 0 → areBytes b ≡ true → r' ≡ withPart r 6 (eighteenOf b) → r'' ≡ cond (isLayout2 b) (set r' 5 (getD b 18 0)) r'
+    pub restore-yes : {r' r'' : List ℕ} → n ≡ 0 → areBytes b ≡ true → r' ≡ withPart r 6 (eighteenOf b) → r'' ≡ set r' 5 (bit (flagFrom b (eqb (getD r' 5 0) 1)))
         → (0, r'', m) ≡ restores b r m
     unfolding called restore
     restore-yes z a g h =
@@ -107,5 +109,5 @@ module _ (r : List ℕ) (v : Valid r) where
         let k = eighteen-back b a t in
         let c : Cartridge = cartWith (cartOf r) (cartOf r .dirty) (chipOf (eighteenOf b)) in
         let p = g ∙ ap₂ (λ (l k : List ℕ). withPart l 6 k) (sym (v .back)) (sym k) ∙ chip-put (cartOf r) (chipOf (eighteenOf b)) in
-        let f = h ∙ ap (λ (l : List ℕ). cond (isLayout2 b) (set l 5 (getD b 18 0)) l) p ∙ flag-or c b t in
+        let f = h ∙ ap (λ (l : List ℕ). set l 5 (bit (flagFrom b (eqb (getD l 5 0) 1)))) p ∙ flag-from c b in
         rw (v .yes, v .allowed, q) (λ i. (0, f i, m))

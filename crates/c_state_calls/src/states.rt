@@ -4,13 +4,13 @@ use c_record::layout;
 use chip_record::StateBytes;
 use chip_record::layout as state;
 ghost use mathlib.Core.Path.{_≡_};
-ghost use mathlib.Core.Bool.{cond};
 ghost use mathlib.Core.List.{List, [], _∷_, _++_};
 ghost use Prim.Native.Nat.{ℕ};
+ghost use lib.Dec.{eqb};
 ghost use lib.ListN.{length, getD, set};
-ghost use Rattle.lists.specs.Lists.{withPart};
+ghost use Rattle.lists.specs.Lists.{bit, withPart};
 ghost use Rattle.chip_record.specs.ChipState.{chipRecordSize};
-ghost use Rattle.chip_record.specs.States.{stateSize, layoutNumber, flagAt, isLayout2};
+ghost use Rattle.chip_record.specs.States.{stateSize, layoutNumber, flagFrom};
 ghost use Rattle.c_record.specs.RecordBytes.{recordSize, dirtyAt, chipAt, chipIn};
 ghost use Rattle.c_record.specs.Calls.{opens, givesState, restores};
 
@@ -42,7 +42,7 @@ fn copy_out(cart: &[u8], bytes: &mut [u8])
     bytes[state::LAYOUT] = state::LAYOUT_2;
 }
 
-// The chip record's bytes and the flag, into a record; 18 bytes leave the flag.
+// The chip record's bytes, into a record.
 fn copy_in(cart: &mut [u8], bytes: &[u8])
     requires { ⌜ (length (now cart) ≡ recordSize) × (length (now bytes) ≡ chipRecordSize) ⌝ }
     ensures { λ _. ⌜ now (cart .exit) ≡ withPart (now (cart .entry)) chipAt (now (bytes .entry)) ⌝ }
@@ -50,15 +50,13 @@ fn copy_in(cart: &mut [u8], bytes: &[u8])
     memory::copy_file(&mut cart[layout::CHIP..layout::PART], bytes);
 }
 
+// The flag of a state, into a record, whose own it is where the state has none.
 fn put_flag(cart: &mut RecordBytes, bytes: &[u8])
     ensures { λ _. ⌜ (let r = now (cart .entry) in
-        let b = now (bytes .entry) in
-        now (cart .exit) ≡ cond (isLayout2 b) (set r dirtyAt (getD b flagAt 0)) r) ⌝ }
+        now (cart .exit) ≡ set r dirtyAt (bit (flagFrom (now (bytes .entry)) (eqb (getD r dirtyAt 0) 1)))) ⌝ }
 {
-    if bytes.len() != state::STATE_SIZE {
-        return;
-    }
-    cart[layout::DIRTY] = bytes[state::FLAG];
+    let dirty = cart[layout::DIRTY] == 1;
+    cart[layout::DIRTY] = lists::bit(chip_record::flag_from(bytes, dirty));
 }
 
 // The calls below take no memory; their contracts hold for any memory.

@@ -60,13 +60,6 @@ restores-by k s f c dirty h a g e =
     ∙ restore-accepted b (chipWith s f c) (rw g (own-yes k s h))
     ∙ ap₂ (λ (x : Bool) (y : ChipRecord). outcome [] (chipWith s x y) []) e (own-restored k (s .cart .chip) (s .cart .dirty) a)
 
-restores : (s : State) (f : Bool) (c : ChipRecord) → recordAllowed (s .cart) ≡ true → s .cart .chip .eeprom .acc < 2 ^ 64 → recordAllowed (chipWith s f c .cart) ≡ true
-    → (restore (step chipState [] s .given) (chipWith s f c) ≡ outcome [] s []) × (restore (eighteenOf (step chipState [] s .given)) (chipWith s f c) ≡ outcome [] (chipWith s f (s .cart .chip)) [])
-restores s f c h a g = (
-  restores-by twenty s f c (s .cart .dirty) h a g (own-flag (s .cart .chip) (s .cart .dirty) f),
-  restores-by eighteen s f c f h a g (old-flag (s .cart .chip) (s .cart .dirty) f),
-)
-
 numbers : (b : List ℕ) (s : State) → numbered (restoreQuestions b s) ≡ true
 unfolding fieldQuestions
 numbers b s = refl
@@ -113,4 +106,11 @@ refuses b s =
     (λ e h. (refused-first qs h, refl))
 
 pub state-bytes : StateBytes
-state-bytes = record { restoresItself = restores; writesBack = writes-back; writesBackOld = writes-old; refusesFirst = refuses }
+state-bytes =
+    record {
+      restoresItself = λ s f c h a g. restores-by twenty s f c (s .cart .dirty) h a g (own-flag (s .cart .chip) (s .cart .dirty) f);
+      eighteenRestore = λ s f c h a g. restores-by eighteen s f c f h a g (old-flag (s .cart .chip) (s .cart .dirty) f);
+      writesBack = writes-back;
+      writesBackOld = writes-old;
+      refusesFirst = refuses;
+    }

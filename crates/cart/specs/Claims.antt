@@ -21,12 +21,16 @@ use Rattle.cart.specs.Calls.{chipWith, restoreQuestions, step, restore, 
 -- demand 2: "Each record that `chip_state` writes is restored to itself; bytes that restore accepts are written
 -- back unchanged."
 pub record StateBytes : Type 0 where
-  -- whatever flag and chip record the cartridge had meanwhile; the eighteen alone leave its flag
+  -- whatever flag and chip record the cartridge had meanwhile
   pub restoresItself : (s : State) (dirty : Bool) (chip : ChipRecord)
       → recordAllowed (s .cart) ≡ true → s .cart .chip .eeprom .acc < 2 ^ 64
       → let t = chipWith s dirty chip in recordAllowed (t .cart) ≡ true
-      → (restore (step chipState [] s .given) t ≡ outcome [] s [])
-      × (restore (eighteenOf (step chipState [] s .given)) t ≡ outcome [] (chipWith s dirty (s .cart .chip)) [])
+      → restore (step chipState [] s .given) t ≡ outcome [] s []
+  -- the first eighteen bytes alone leave the flag that it has
+  pub eighteenRestore : (s : State) (dirty : Bool) (chip : ChipRecord)
+      → recordAllowed (s .cart) ≡ true → s .cart .chip .eeprom .acc < 2 ^ 64
+      → let t = chipWith s dirty chip in recordAllowed (t .cart) ≡ true
+      → restore (eighteenOf (step chipState [] s .given)) t ≡ outcome [] (chipWith s dirty (s .cart .chip)) []
   pub writesBack : (b : List ℕ) (s : State) → areBytes b ≡ true → restore b s .refusal ≡ 0
       → length b ≡ stateSize → step chipState [] (restore b s .next) .given ≡ b
   -- old files "come back unchanged as the first eighteen of the twenty"; the others are the flag, as it was, and the 2

@@ -56,7 +56,8 @@ counted s o =
 abbrev pub guarded : List Question → List ℕ → State → Outcome → Outcome
 guarded qs d s o = cond (eqb (asked qs) 0) o (refused (asked qs) s d)
 
--- 2: "Is the record's image length in that range and each chip field allowed?" 02, ticket 1: "A record whose named part does not have its kind's size is a no at question 2."
+-- 2: "Is the record's image length in that range and each chip field allowed?" 02, ticket 1: "A record whose named part
+-- does not have its kind's size is a no at question 2."
 unfoldable pub recordAllowed : Cartridge → Bool
 recordAllowed c = imageLength (c .len) && partFits (c .part) (c .kind) && chipAllowed (c .chip)
 

@@ -26,8 +26,8 @@ pub record Bytes : Type 0 where
   pub tallies : List ℕ
 
 -- what a host finds after a call: the number returned, and what is then in the out-parameter for a value, in that for
--- the number of places changed, in the destination, in the state and in the out-parameter of `take_save_dirty`; 0 and []
--- where the call has none
+-- the number of places changed, in the destination, in the state and in the out-parameter of `take_save_dirty`; 0 and
+-- [] where the call has none
 pub record Found : Type 0 where
   pub answer : ℕ
   pub place : ℕ

@@ -12,7 +12,6 @@ pub use encoding::field_questions;
 pub use encoding::phase_number;
 use flash::Flash;
 pub use layout::CHIP_SIZE;
-pub use layout::ChipBytes;
 pub use layout::STATE_SIZE;
 pub use layout::StateBytes;
 pub use states::chip_in;
