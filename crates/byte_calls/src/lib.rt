@@ -1,5 +1,7 @@
 // `save_read` and `save_write`: the byte calls by value.
 
+#![tactic(auto)]
+
 ghost use Rattle.std.specs.Prelude.{◌≡◌, [], length};
 ghost use Rattle.kind.specs.Kind.{memory_size, tally_count};
 ghost use Rattle.cart.specs.Record.{counted};

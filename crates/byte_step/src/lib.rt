@@ -1,5 +1,7 @@
 // A byte read and a byte written, by the kind: the one place in which the kinds are told apart for them.
 
+#![tactic(auto)]
+
 ghost use Rattle.std.specs.Prelude.{◌≡◌, ◌<◌, length};
 ghost use Rattle.kind.specs.Kind.{memory_size};
 ghost use Rattle.part.specs.Part.{id_word};
@@ -12,7 +14,7 @@ use memory::Store;
 use part::Part;
 
 // What a written byte leads to: the flash chip, whether the changed flag is set, and what is to be stored.
-#[derive(Drop)]
+#[derive(Clone, Copy)]
 pub struct ByteStep {
     pub flash: Flash,
     pub sets: bool,

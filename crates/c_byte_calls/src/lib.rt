@@ -2,6 +2,8 @@
 // `_any` is for every record. It is called last and at two places, so that the compiler leaves it out of line and
 // the quick way pays nothing for it.
 
+#![tactic(auto)]
+
 ghost use Rattle.std.specs.Prelude.{◌≡◌};
 ghost use Rattle.part.specs.declared.Part.TheVariants.{Usual};
 ghost use Rattle.c_record.specs.RecordBytes.{cart_of, Valid};

@@ -1,5 +1,7 @@
 // What is asked of an image alone, or of a kind's and a part's number. Values go to out-parameters.
 
+#![tactic(auto)]
+
 mod parts;
 mod pieces;
 mod sizes;

@@ -1,5 +1,7 @@
 // The single reading for C: the whole search with its number, and a matcher of 13 bytes for an image in pieces.
 
+#![tactic(auto)]
+
 mod bytes;
 mod pieces;
 

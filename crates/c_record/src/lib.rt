@@ -1,5 +1,7 @@
 // The cartridge record as a C program holds it: question 2 asked of its bytes, and each chip's fields in and out.
 
+#![tactic(auto)]
+
 mod fields;
 pub mod layout;
 mod outward;

@@ -1,6 +1,8 @@
 // `eeprom_begin_dma`, `eeprom_write` and `eeprom_read` on the bytes of a record. In front of question 2 is the
 // quick test; a function `_any` is for every record. It is called last and at two places, so that the compiler
 // leaves it out of line and the quick way pays nothing for it.
+
+#![tactic(auto)]
 ghost use Rattle.std.specs.Prelude.{◌≡◌, List, [], ℕ, ◌<◌, length};
 ghost use Rattle.memory.specs.Memory.{stored, with_count, stores, Tallied, Fits};
 ghost use Rattle.eeprom.specs.Eeprom.{turned};

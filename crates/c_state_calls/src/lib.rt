@@ -1,5 +1,7 @@
 // Opening, the chip's state, and what a record tells in one number, on the bytes of a record.
 
+#![tactic(auto)]
+
 mod states;
 mod values;
 

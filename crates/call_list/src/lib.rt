@@ -1,5 +1,7 @@
 // A list of calls and cuts, encoded: which item is at each place, and whether the list can be played.
 
+#![tactic(auto)]
+
 mod items;
 mod surveying;
 
@@ -7,7 +9,7 @@ pub use items::{ending_room, item_in, item_length, item_room};
 pub use surveying::ask_list;
 
 // One item of an encoded list. The bytes of a file follow its length.
-#[derive(Drop)]
+#[derive(Clone, Copy)]
 pub enum Item {
     SaveRead(u32),
     SaveWrite(u32, u8),
@@ -24,7 +26,7 @@ pub enum Item {
 
 // What is known of a list: whether it has only items, whether a byte write is among them, whether the answers fit
 // into the output, and how many bytes of the output are left.
-#[derive(Drop)]
+#[derive(Clone, Copy)]
 pub struct Survey {
     pub good: bool,
     pub writes: bool,

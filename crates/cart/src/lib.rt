@@ -1,5 +1,7 @@
 // The cartridge: its record, the questions at the door, and in specs/ the machine of document 01.
 
+#![tactic(auto)]
+
 mod questions;
 
 ghost use Rattle.std.specs.Prelude.{◌≡◌};
@@ -14,7 +16,7 @@ use kind::SaveType;
 use part::Part;
 pub use questions::{door, record_allowed, store_door};
 
-#[derive(Drop)]
+#[derive(Clone, Copy)]
 pub struct Cartridge {
     // the image's length
     pub len: usize,
@@ -28,7 +30,7 @@ pub struct Cartridge {
 
 // What a call returns: the number of a refusal or 0, the number that it answers or 0, how many bytes of the memory it
 // changed, and the record.
-#[derive(Drop)]
+#[derive(Clone, Copy)]
 pub struct Reply {
     pub refusal: u8,
     pub value: u32,

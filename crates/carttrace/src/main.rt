@@ -1,11 +1,13 @@
 // carttrace: reads frames, one a line, and prints an answer for each. This is proved in the crate `carttrace_lib`; the
 // program reads and writes. It takes the input in pieces, so that input and lines may be of any length.
 
+#![tactic(auto)]
+
 ghost use Rattle.std.specs.Prelude.{◌≡◌, ◌≤◌, length};
 
 use carttrace_lib::Session;
 
-#[derive(Drop)]
+#[derive(Clone, Copy)]
 struct Turn {
     session: Session,
     more: bool,

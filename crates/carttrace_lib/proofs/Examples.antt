@@ -22,7 +22,7 @@ record Runs : Type 0 where
   nothing : carttrace [] ≡ []
   empty : carttrace (ascii "\n00\n") ≡ ascii "FF\n"
   no_kind : carttrace (ascii "03\n03\n") ≡ ascii "FF\n"
-  bad : carttrace (ascii "00\n\n3\n03 \n0a\n08\n0100000000\n040000\n") ≡ ascii "00\n_ff\n_ff\n_ff\n_ff\n_ff\n00_ff\n04\n"
+  bad : carttrace (ascii "00\n\n3\n03 \n0a\n08\n0100000000\n040000\n") ≡ ascii "00\nFF\nFF\nFF\nFF\nFF\n00FF\n04\n"
 
 runs : Runs
 unfolding low_first erased image_length state_allowed width_allowed w tells6 tells14 begin_dma dma_question read_bit after_read phase_of chip_bytes field_questions state_bytes part_fits record_allowed fresh_cart read_byte read_save questions accepted step character value_of number_from hex frame_of frame fresh_of first_line line_of fresh_kind play play_all play_lines lines_from carttrace

@@ -1,5 +1,7 @@
 // carttrace as a library: characters to lines, lines to calls, answers to lines.
 
+#![tactic(auto)]
+
 mod characters;
 mod one_frame;
 
@@ -9,14 +11,14 @@ use frames::Line;
 pub use one_frame::play;
 
 // The record after a frame, and the length of its line.
-#[derive(Drop)]
+#[derive(Clone, Copy)]
 pub struct Played {
     pub cart: Cartridge,
     pub len: usize,
 }
 
 // Before line 1; after a line 1 that named a kind; after one that did not.
-#[derive(Drop)]
+#[derive(Clone, Copy)]
 pub enum Stage {
     First,
     Playing,
@@ -24,7 +26,7 @@ pub enum Stage {
 }
 
 // The state between two characters.
-#[derive(Drop)]
+#[derive(Clone, Copy)]
 pub struct Session {
     pub stage: Stage,
     pub line: Line,
@@ -32,7 +34,7 @@ pub struct Session {
 }
 
 // The session after some input, and the length of what it printed.
-#[derive(Drop)]
+#[derive(Clone, Copy)]
 pub struct Told {
     pub session: Session,
     pub len: usize,

@@ -1,5 +1,7 @@
 // The serial bit in on a chip record apart from the cartridge record: by value, and by `&mut`.
 
+#![tactic(auto)]
+
 ghost use Rattle.std.specs.Prelude.{◌≡◌};
 ghost use Rattle.chip_by_reference.specs.Lent.{plain_call, apart};
 
@@ -9,14 +11,14 @@ use kind::SaveType;
 use part::Part;
 
 // The number of a refusal or 0, how many bytes of the memory changed, and the changed flag after the call.
-#[derive(Drop)]
+#[derive(Clone, Copy)]
 pub struct LentReply {
     pub refusal: u8,
     pub changed: u32,
     pub dirty: bool,
 }
 
-#[derive(Drop)]
+#[derive(Clone, Copy)]
 pub struct ChipReply {
     pub chip: ChipRecord,
     pub reply: LentReply,

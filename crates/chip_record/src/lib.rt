@@ -1,5 +1,7 @@
 // The chip record: its bytes, which of them are allowed, and the states that hold it.
 
+#![tactic(auto)]
+
 mod encoding;
 pub mod layout;
 mod states;
@@ -11,7 +13,7 @@ pub use layout::{CHIP_SIZE, STATE_SIZE, StateBytes};
 pub use states::{chip_in, flag_from, state_of, state_questions};
 
 // The first 18 bytes of `chip_state`.
-#[derive(Drop)]
+#[derive(Clone, Copy)]
 pub struct ChipRecord {
     pub flash: Flash,
     pub eeprom: Eeprom,

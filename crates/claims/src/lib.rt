@@ -1,1 +1,3 @@
 // No code: specs/Claims.antt lists every theorem that docs/PROOFS.md names.
+
+#![tactic(auto)]

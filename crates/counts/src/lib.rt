@@ -1,5 +1,7 @@
 // How many bytes a store changes, how many bytes are in use, and the tallies of these by stretches of 4,096 bytes.
 
+#![tactic(auto)]
+
 mod counting;
 mod tallies;
 

@@ -7,7 +7,7 @@ ghost use Rattle.crc.specs.Lanes.{started, words_in, bytes_out, lane_ends};
 use crate::table::byte_out;
 use crate::words::word_at;
 
-#[derive(Drop)]
+#[derive(Clone, Copy)]
 pub struct Registers {
     pub r0: u32,
     pub r1: u32,

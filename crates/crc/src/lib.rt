@@ -1,5 +1,7 @@
 // CRC-32/IEEE of the image, by its table.
 
+#![tactic(auto)]
+
 mod blocks;
 mod lanes;
 mod operator;

@@ -1,5 +1,7 @@
 // A cut that carries layout 2, made by the real calls: export and `chip_state`, then opening, load and restore.
 
+#![tactic(auto)]
+
 ghost use Rattle.std.specs.Prelude.{◌≡◌, true, ◌≤◌, length};
 ghost use Rattle.kind.specs.Kind.{memory_size};
 ghost use Rattle.cart.specs.Record.{record_allowed};

@@ -5,6 +5,8 @@
 // an image above 16 MiB, for which there is no room here, so 05 is played as an Eeprom512 whose list begins with a load
 // of 8,192 erased bytes. The load makes the chip large; from there on the two answer the same.
 
+#![tactic(auto)]
+
 ghost use Rattle.std.specs.Prelude.{◌≤◌, length};
 
 fn run(text: &[u8]) {

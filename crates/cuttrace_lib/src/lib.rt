@@ -1,5 +1,7 @@
 // cuttrace as a library: the lines of a trace as a list of calls and cuts, the list replayed, its answers as lines.
 
+#![tactic(auto)]
+
 mod digits;
 mod lines;
 mod printing;

@@ -1,5 +1,7 @@
 // The serial EEPROM: bytes 3 to 17 of the chip record.
 
+#![tactic(auto)]
+
 mod input;
 mod output;
 mod phases;
@@ -14,7 +16,7 @@ use memory::Store;
 pub use output::{after_read, draw, read_bit};
 pub use phases::count_limit;
 
-#[derive(Drop)]
+#[derive(Clone, Copy)]
 pub enum EepromPhase {
     Opcode,
     ReadAddress,
@@ -25,7 +27,7 @@ pub enum EepromPhase {
     Reading,
 }
 
-#[derive(Drop)]
+#[derive(Clone, Copy)]
 pub struct Eeprom {
     // address bits that a DMA has told, 0: not told
     pub width: u8,
@@ -39,21 +41,21 @@ pub struct Eeprom {
 }
 
 // One bit shifted in: more are wanted, with their count, or the number is whole.
-#[derive(Drop)]
+#[derive(Clone, Copy)]
 pub enum Shifted {
     More(u64, u8),
     Full(u64),
 }
 
 // What a bit in leads to: the chip, and what is to be stored.
-#[derive(Drop)]
+#[derive(Clone, Copy)]
 pub struct EepromStep {
     pub eeprom: Eeprom,
     pub store: Store,
 }
 
 // What a bit out changes: nothing, the read place, or the read is over.
-#[derive(Drop)]
+#[derive(Clone, Copy)]
 pub enum Drawn {
     Nothing,
     Place(u8),

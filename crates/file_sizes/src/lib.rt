@@ -1,5 +1,7 @@
 // Which files can be a kind's, by their length, and of doubled ones by what import drops.
 
+#![tactic(auto)]
+
 mod doubled;
 
 ghost use Rattle.std.specs.Prelude.{◌≡◌};
@@ -10,7 +12,7 @@ pub use doubled::file_door;
 use kind::SaveType;
 
 // How many bytes of a save file are kept, or that the file cannot be this kind's.
-#[derive(Drop)]
+#[derive(Clone, Copy)]
 pub enum SaveFit {
     Keeps(usize),
     Refused,

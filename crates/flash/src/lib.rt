@@ -1,5 +1,7 @@
 // The flash chip: bytes 0 to 2 of the chip record.
 
+#![tactic(auto)]
+
 mod writes;
 
 ghost use Rattle.std.specs.Prelude.{◌≡◌, ◌<◌, length};
@@ -8,7 +10,7 @@ ghost use Rattle.flash.specs.Flash.{state_allowed, place, id_byte, shown_byte};
 use memory::Store;
 pub use writes::flash_write;
 
-#[derive(Drop)]
+#[derive(Clone, Copy)]
 pub struct Flash {
     // 0 to 2 and 4 to 8: how far a command has come
     pub state: u8,
@@ -18,7 +20,7 @@ pub struct Flash {
 }
 
 // What a written byte leads to: the chip, and what is to be stored.
-#[derive(Drop)]
+#[derive(Clone, Copy)]
 pub struct FlashStep {
     pub flash: Flash,
     pub store: Store,

@@ -1,5 +1,7 @@
 // The lines of carttrace: a line read, and a line printed.
 
+#![tactic(auto)]
+
 mod print;
 
 ghost use Rattle.std.specs.Prelude.{◌≡◌};
@@ -9,7 +11,7 @@ ghost use Rattle.frames.specs.Frames.{line_with, empty_line, pushed, frame_in, f
 use kind::SaveType;
 pub use print::print_line;
 
-#[derive(Drop)]
+#[derive(Clone, Copy)]
 pub enum Frame {
     // address
     SaveRead(u32),
@@ -24,14 +26,14 @@ pub enum Frame {
     Bad,
 }
 
-#[derive(Drop)]
+#[derive(Clone, Copy)]
 pub enum FirstLine {
     Fresh(SaveType),
     NoKind,
 }
 
 // A line of any length, read so far: the count of its digits and their number, while it can still be a frame.
-#[derive(Drop)]
+#[derive(Clone, Copy)]
 pub struct Line {
     pub good: bool,
     pub count: u8,

@@ -1,5 +1,7 @@
 // Hexadecimal digits in upper case.
 
+#![tactic(auto)]
+
 ghost use Rattle.std.specs.Prelude.{◌≡◌, ◌<◌};
 ghost use Rattle.hex_text.specs.Hex.{character, value_of};
 

@@ -1,6 +1,8 @@
 // What is asked of the image alone: its bytes and its header check. Nothing is required of an image; what it is too
 // short or too long for is refused with a number.
 
+#![tactic(auto)]
+
 mod header;
 mod reads;
 
@@ -11,7 +13,7 @@ pub use header::header_checksum;
 pub use reads::{read, read16, read32};
 
 // The number of a refusal, or 0 and the value asked for.
-#[derive(Drop)]
+#[derive(Clone, Copy)]
 pub struct Answer {
     pub refusal: u8,
     pub value: u32,

@@ -1,5 +1,7 @@
 // The kinds of save memory, and which one an image has.
 
+#![tactic(auto)]
+
 mod header;
 mod markers;
 
@@ -9,7 +11,7 @@ ghost use Rattle.kind.specs.Kind.{kind_number, kind_of, memory_size, tally_count
 pub use header::{flash_code, ruby_title, sram_code};
 pub use markers::{detect_save_type, eeprom_kind};
 
-#[derive(Drop)]
+#[derive(Clone, Copy)]
 pub enum SaveType {
     None,
     Sram,

@@ -1,6 +1,8 @@
 // Bytes, texts, digits and questions: definitions that every other crate's contracts are made of, the loops
 // that fill, copy, look for FFh and compare, and numbers from their bytes.
 
+#![tactic(auto)]
+
 ghost use Rattle.std.specs.Prelude.{◌≡◌, ◌+◌, ◌*◌, ◌≤◌, length, replicate};
 ghost use Rattle.lists.specs.Lists.{bit, into, begins, all_ff};
 

@@ -1,5 +1,7 @@
 // The kind of an image in a single reading: a matcher for all five markers, handed the image's bytes from the front.
 
+#![tactic(auto)]
+
 mod feeding;
 mod quiet;
 mod searching;
@@ -11,7 +13,7 @@ pub use searching::{detect_save_type, finish, search};
 pub use step::start;
 
 // Which markers were seen, and the last nine bytes, newest first.
-#[derive(Drop)]
+#[derive(Clone, Copy)]
 pub struct Matcher {
     pub sram: bool,
     pub flash64: bool,
@@ -21,14 +23,14 @@ pub struct Matcher {
 }
 
 // A matcher, and how many bytes it was handed.
-#[derive(Drop)]
+#[derive(Clone, Copy)]
 pub struct Fed {
     pub matcher: Matcher,
     pub count: usize,
 }
 
 // The kind of an image, and how many of its bytes were handed to the matcher.
-#[derive(Drop)]
+#[derive(Clone, Copy)]
 pub struct Found {
     pub kind: SaveType,
     pub count: usize,

@@ -1,5 +1,7 @@
 // The save memory, and every change of it.
 
+#![tactic(auto)]
+
 mod files;
 mod leaves;
 mod parts;
@@ -10,7 +12,7 @@ ghost use Rattle.memory.specs.Memory.{erased, stored, with_count, stores, Tallie
 pub use files::copy_file;
 
 // What a call stores. A chip's step returns one and touches no memory itself.
-#[derive(Drop)]
+#[derive(Clone, Copy)]
 pub enum Store {
     Nothing,
     // a byte: place, value

@@ -7,7 +7,7 @@ ghost use Rattle.memory.specs.Replaced.{noted, Replaced};
 use crate::files::copy_file;
 
 // How many places changed, and the bytes in use before and after. (Of bytes that stay they are both 0.)
-#[derive(Drop)]
+#[derive(Clone, Copy)]
 pub struct Change {
     pub changed: u32,
     pub before: u32,
@@ -15,7 +15,7 @@ pub struct Change {
 }
 
 // How many places changed, and the tally of their stretch.
-#[derive(Drop)]
+#[derive(Clone, Copy)]
 pub struct Noted {
     pub changed: u32,
     pub tally: u16,

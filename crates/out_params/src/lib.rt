@@ -1,5 +1,7 @@
 // Out-parameters.
 
+#![tactic(auto)]
+
 ghost use Rattle.std.specs.Prelude.{◌≡◌};
 ghost use Rattle.out_params.specs.Places.{told};
 

@@ -1,5 +1,7 @@
 // The flash parts of GBATEK's list: their sizes, their ID words, and which kinds they fit.
 
+#![tactic(auto)]
+
 ghost use Rattle.std.specs.Prelude.{◌≡◌};
 ghost use Rattle.part.specs.Part.{part_number, part_of, part_size, part_word, usual_word, id_word};
 ghost use Rattle.part.specs.Part.{number_fits, part_fits};
@@ -7,7 +9,7 @@ ghost use Rattle.part.specs.Part.{number_fits, part_fits};
 use kind::SaveType;
 
 // The chip that a maker put in, or the usual one of the kind.
-#[derive(Drop)]
+#[derive(Clone, Copy)]
 pub enum Part {
     Usual,
     Sst64,

@@ -1,6 +1,8 @@
 // Two quick tests in front of question 2, for records that calls usually meet. A test says yes only where question
 // 2 does. It joins neighbouring bytes to one number and compares once; bytes that a call has just stored are tested
 // one at a time, since a wider load would stall.
+
+#![tactic(auto)]
 ghost use Rattle.std.specs.Prelude.{◌≡◌, Bool, true, ◌≤◌, length, get_or};
 ghost use Rattle.eeprom.specs.Eeprom.{width_allowed};
 ghost use Rattle.c_record.specs.RecordBytes.{record_size, is_record, Valid};

@@ -1,5 +1,7 @@
 // Runs an encoded list of calls and cuts through the real calls. The answers do not depend on the cuts.
 
+#![tactic(auto)]
+
 mod answers;
 mod exported;
 mod playing;

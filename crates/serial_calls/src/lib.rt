@@ -1,5 +1,7 @@
 // `eeprom_begin_dma`, `eeprom_write` and `eeprom_read`: the serial calls by value.
 
+#![tactic(auto)]
+
 ghost use Rattle.std.specs.Prelude.{◌≡◌, true, List, [], ℕ, length};
 ghost use Rattle.kind.specs.Kind.{memory_size, tally_count, uses_eeprom};
 ghost use Rattle.cart.specs.Record.{record_allowed, counted};

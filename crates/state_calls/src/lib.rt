@@ -1,6 +1,8 @@
 // The calls by value on a whole record: opening, `chip_state`, restore, `take_save_dirty`, the EEPROM questions,
 // and what the tallies tell.
 
+#![tactic(auto)]
+
 ghost use Rattle.std.specs.Prelude.{◌≡◌, List, [], ℕ};
 ghost use Rattle.kind.specs.declared.SaveType.TheVariants.{None};
 ghost use Rattle.part.specs.declared.Part.TheVariants.{Usual};
@@ -18,7 +20,7 @@ use kind::SaveType;
 use part::Part;
 
 // The number of a refusal or 0, and the state's bytes, all 0 if refused.
-#[derive(Drop)]
+#[derive(Clone, Copy)]
 pub struct StateAnswer {
     pub refusal: u8,
     pub bytes: StateBytes,

@@ -6,7 +6,7 @@ use file_sizes::SaveFit;
 use kind::SaveType;
 
 // A kind by its number.
-#[derive(Drop)]
+#[derive(Clone, Copy)]
 pub enum Kind {
     Of(SaveType),
     Nothing,

@@ -2,6 +2,8 @@
 // counts. After each call it holds what the tallies answer against a full reading of the memory, and the last bytes of
 // the state against the record. `compare/README.md` describes the frames.
 
+#![tactic(auto)]
+
 mod calls;
 mod digits;
 mod images;
@@ -19,7 +21,7 @@ use part::Part;
 use score::Score;
 
 // The state between two lines.
-#[derive(Drop)]
+#[derive(Clone, Copy)]
 struct Replay {
     cart: Cartridge,
     score: Score,

@@ -1,6 +1,8 @@
 // Runs the trace in each file that an argument names and prints what carttrace prints for it. The text is fed in pieces
 // of seven characters.
 
+#![tactic(auto)]
+
 ghost use Rattle.std.specs.Prelude.{◌≡◌, ◌+◌, ◌≤◌, ◌<◌, length};
 
 use carttrace_lib::{Session, Told};

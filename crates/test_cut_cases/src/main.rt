@@ -1,5 +1,7 @@
 // Runs the trace in each file that an argument names, and prints what cuttrace prints for it.
 
+#![tactic(auto)]
+
 fn run(text: &[u8]) {
     let mut list = cuttrace_lib::large_room();
     let mut memory = cuttrace_lib::room();

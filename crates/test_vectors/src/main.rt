@@ -1,4 +1,6 @@
 // Vectors of the image's side, each with its answer: what a reader holds against a book or another program.
+
+#![tactic(auto)]
 mod crcs;
 mod orders;
 mod pieces;
@@ -103,16 +105,16 @@ fn sizes(kind: SaveType) {
 
 // The Unicode Standard's tables 3-8 to 3-11, sequences that the title's end cuts off, zeros inside and at the end.
 fn titles() {
-    title(b"\x_c0\x_af\x_e0\x80\x_bf\x_f0\x81\x82\x41\0\0\0");
-    title(b"\x_ed\x_a0\x80\x_ed\x_bf\x_bf\x_ed\x_af\x41\0\0\0");
-    title(b"\x_f4\x91\x92\x93\x_ff\x41\x80\x_bf\x42\0\0\0");
-    title(b"\x_e1\x80\x_e2\x_f0\x91\x92\x_f1\x_bf\x41\0\0\0");
-    title(b"\x_c3\x_a9\x_e2\x82\x_ac\x_f0\x9_f\x8_e\x_ae\0\0\0");
-    title(b"\x_f0\x8_f\x_bf\x_bf\x_f5\x80\x80\x80\x_f4\x8_f\x_bf\x_bf");
-    title(b"0123456789A\x_c2");
-    title(b"0123456789\x_e1\x80");
-    title(b"012345678\x_f1\x80\x80");
-    title(b"\x_ff\x_ff\x_ff\x_ff\x_ff\x_ff\x_ff\x_ff\x_ff\x_ff\x_ff\x_ff");
+    title(b"\xC0\xAF\xE0\x80\xBF\xF0\x81\x82\x41\0\0\0");
+    title(b"\xED\xA0\x80\xED\xBF\xBF\xED\xAF\x41\0\0\0");
+    title(b"\xF4\x91\x92\x93\xFF\x41\x80\xBF\x42\0\0\0");
+    title(b"\xE1\x80\xE2\xF0\x91\x92\xF1\xBF\x41\0\0\0");
+    title(b"\xC3\xA9\xE2\x82\xAC\xF0\x9F\x8E\xAE\0\0\0");
+    title(b"\xF0\x8F\xBF\xBF\xF5\x80\x80\x80\xF4\x8F\xBF\xBF");
+    title(b"0123456789A\xC2");
+    title(b"0123456789\xE1\x80");
+    title(b"012345678\xF1\x80\x80");
+    title(b"\xFF\xFF\xFF\xFF\xFF\xFF\xFF\xFF\xFF\xFF\xFF\xFF");
     title(b"AB\0C\0\0\0\0\0\0\0\0");
     title(b"\0\0\0\0\0\0\0\0\0\0\0\0");
 }

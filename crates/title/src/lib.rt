@@ -1,5 +1,7 @@
 // The title, with what is not UTF-8 in it replaced.
 
+#![tactic(auto)]
+
 mod utf8;
 
 ghost use Rattle.std.specs.Prelude.{◌≡◌, ◌*◌, ◌<◌, ◌≤◌, length, take};
@@ -8,14 +10,14 @@ ghost use Rattle.title.specs.Title.{showing, replaced, trimmed, header_title};
 use image::Answer;
 
 // What a text begins with: a well-formed UTF-8 sequence, or the maximal subpart of an ill-formed one, by its length.
-#[derive(Drop)]
+#[derive(Clone, Copy)]
 pub enum Sequence {
     Well(usize),
     Ill(usize),
 }
 
 // How many bytes of a text were taken, and how many are shown for them.
-#[derive(Drop)]
+#[derive(Clone, Copy)]
 pub struct Shown {
     pub used: usize,
     pub len: usize,
@@ -33,7 +35,7 @@ fn show(out: &mut [u8], s: &[u8]) -> Shown
             Shown { used: n, len: n }
         }
         Sequence::Ill(n) => {
-            lists::copy(&mut *out, b"\x_ef\x_bf\x_bd");
+            lists::copy(&mut *out, b"\xEF\xBF\xBD");
             Shown { used: n, len: 3 }
         }
     }
