@@ -1,0 +1,14 @@
+-- `lists::copy` meets its contract. The invariant: the first i bytes are the output's, the others as they were. Assumes nothing.
+use mathlib.Core.Path.{◌≡◌, refl, ◌∙◌}
+use Prim.Native.Nat.{◌≤◌, ◌-◌}
+use native.Mathlib.Omega.{arith}
+use mathlib.Core.List.{◌++◌}
+use lib.ListN.{length, take, drop, length-set}
+use Rattle.lists.proofs.Parts.{copy_more, copy-all}
+use Rattle.lists.proofs.copy.Given as goal
+
+abbrev pub invariant-loop-i : goal.invariant-loop-i
+invariant-loop-i l = (l.i ≤ length l.output) × (length l.s ≡ length l.initial.s) × (l.s ≡ take l.i l.output ++ drop l.i l.initial.s)
+
+abbrev pub decreases-loop-i : goal.decreases-loop-i
+decreases-loop-i l = length l.output - l.i

@@ -1,0 +1,297 @@
+#!/usr/bin/env python3
+"""Turns the walks of an older Rattle, proofs/F/Proof.antt, into Invariants.antt and Answers.antt.
+
+usage: tools/answers.py NAMES CRATE..     NAMES is the folder that `rt names` wrote
+
+Each goal, step and place has its new name in NAMES. An answer that only says `search rules` or `omega arith` is left out:
+the check finds it.
+"""
+import json
+import os
+import re
+import sys
+
+NAME = r"[A-Za-z_μ][\w'₀-₉-]*"
+TRIVIAL = re.compile(r"^\(?(search rules|omega arith|refl)\)?$")
+
+
+def norm(word):
+    return word.replace("-", "_")
+
+
+def blocks(text):
+    """The declarations of a file: each is the list of its lines, with the comment lines before it."""
+    out, current = [], []
+    for line in text.split("\n"):
+        starts = line and not line[0].isspace()
+        if starts:
+            out.append([line])
+        elif out:
+            out[-1].append(line)
+    return out
+
+
+def contracts(crates):
+    """The names of each function's clauses, by crate and path: (requires, ensures)."""
+    found = {}
+    for crate in crates:
+        src = f"crates/{crate}/src"
+        if not os.path.isdir(src):
+            continue
+        for file in sorted(os.listdir(src)):
+            if not file.endswith(".rt"):
+                continue
+            module = "" if file in ("lib.rt", "main.rt") else file[:-3] + "::"
+            with open(f"{src}/{file}") as f:
+                text = f.read()
+            for m in re.finditer(r"(?m)^(?:#\[[^\n]*\n)*(?:pub )?(?:unsafe )?(?:extern \"C\" )?fn (\w+)(.*?)^\{", text, re.S):
+                head = m.group(2)
+                req = re.findall(r"\brequires\*? ?(\w*) ?\{", head)
+                ens = re.findall(r"\bensures\*? ?(\w*) ?\{", head)
+                found.setdefault((crate, m.group(1)), []).append((module, req, ens))
+    return found
+
+
+class Function:
+    def __init__(self, crate, path, names, clauses):
+        self.crate, self.path, self.names, self.clauses = crate, path, names, clauses
+        self.steps, self.callee = {}, {}
+        for place, parent, (old, new), called, _ in names["places"]:
+            if old:
+                self.steps[norm(old)] = new
+                if called:
+                    self.callee[norm(old)] = called
+        self.goals = {norm(o): n for o, n in names["needs"]}
+        self.order = [n for o, n in names["needs"]]
+        self.loops = {norm(o): (n, vs) for (o, n), vs in names["loops"]}
+        self.typed = {}
+        for at in names["typed"]:
+            for var, step in at:
+                self.typed[norm(step)] = var
+        mine = clauses.get((crate, path.split(".")[-1]), [])
+        self.own = mine[0] if len(mine) >= 1 else ("", [], [])
+        if len(mine) > 1:
+            mod = "::".join(path.split(".")[:-1])
+            for it in mine:
+                if it[0].rstrip(":") == mod:
+                    self.own = it
+        self.alias = {}
+
+    def clause(self, called, which, n):
+        if called is None:
+            names = self.own[which]
+        else:
+            parts = called.split("::")
+            found = self.clauses.get((parts[0], parts[-1]))
+            if not found:
+                found = self.clauses.get((self.crate, parts[-1]))
+            if not found:
+                return str(n)
+            names = found[0][which]
+        if len(names) > n and names[n]:
+            return names[n]
+        return str(n)
+
+    def term(self, token):
+        parts = token.split(".")
+        root, rest = parts[0], [p for p in parts[1:] if p != "before"]
+        out, called, in_requires, in_ensures = [root], None, False, None
+        kind = self.alias.get(root)
+        if kind and kind[0] == "requires":
+            in_requires = True
+        if kind and kind[0] == "ensures":
+            in_ensures = kind[1]
+        if kind and kind[0] == "step":
+            called = kind[1]
+        i = 0
+        while i < len(rest):
+            p = rest[i]
+            if norm(p) in self.typed and i + 1 < len(rest) and rest[i + 1] == "given":
+                out += ["type_inv", self.typed[norm(p)]]
+                i += 2
+                continue
+            if (in_requires or in_ensures) and p.isdigit():
+                out.append(self.clause(None if in_requires else in_ensures, 1 if in_requires else 2, int(p)))
+                in_requires, in_ensures = False, None
+            elif p == "requires":
+                in_requires = True
+                out.append(p)
+            elif p == "ensures":
+                in_ensures = called
+                out.append(p)
+            elif norm(p) in self.steps and not (len(out) > 1 and out[-1] in ("args", "now", "new", "old")):
+                called = self.callee.get(norm(p))
+                out.append(self.steps[norm(p)])
+            else:
+                out.append(p)
+            i += 1
+        self.last = ("requires", None) if in_requires else ("ensures", in_ensures) if in_ensures else ("step", called)
+        return ".".join(out)
+
+    def body(self, text):
+        self.alias = {}
+        text = text.replace(" κs", "")
+
+        def bind(m):
+            converted = self.term(m.group(2))
+            self.alias[m.group(1)] = self.last
+            return f"let {m.group(1)} = {converted} in"
+
+        pattern = re.compile(r"let (%s) = (%s(?:\.[\w'-]+)*) in|(?<![\w'.·-])(%s(?:\.[\w'-]+)+)" % (NAME, NAME, NAME))
+
+        def one(m):
+            if m.group(1):
+                return bind(m)
+            return self.term(m.group(3))
+
+        return pattern.sub(one, text)
+
+
+def convert(crate, path, fn, clauses):
+    folder = f"crates/{crate}/proofs/" + path.replace(".", "/")
+    with open(folder + "/Proof.antt") as f:
+        text = f.read()
+    f = Function(crate, path, fn, clauses)
+    uses, helpers, invariants, answers, comments, said = [], [], [], [], [], []
+    named, pending = {}, []
+    for block in blocks(text):
+        first = block[0]
+        if first.startswith("--"):
+            pending.append("\n".join(block).rstrip())
+            continue
+        if first.startswith("use "):
+            if re.search(r"\.(Tie|Statement)( as|\.)", first) or "borrow.Author.Rules.{rules}" in first:
+                continue
+            uses.append(first)
+            if pending:
+                comments += pending
+                pending = []
+            continue
+        if first.startswith("unfolding") and named.get("last"):
+            named[named["last"]]["unfolding"] = first
+            continue
+        m = re.match(r"(?:abbrev )?(?:pub )?(%s)( \{ℓ\})? : (.*)" % NAME, first)
+        if m:
+            name, kind = m.group(1), "\n".join([m.group(3)] + block[1:]).rstrip()
+            g = re.match(r"tie\.Need-(%s)(?![\w-])" % NAME, kind)
+            l = re.match(r"tie\.(invariant|decreases)-(%s)\s*$" % NAME, kind)
+            named[name] = {"goal": g.group(1) if g else None, "loop": l.groups() if l else None, "signature": "\n".join(block).rstrip(), "comment": pending, "defs": [], "unfolding": None}
+            named["last"] = name
+            pending = []
+            continue
+        m = re.match(r"(%s)(.*)" % NAME, first)
+        if m and m.group(1) in named:
+            named[m.group(1)]["defs"].append("\n".join(block).rstrip())
+            continue
+        helpers.append("\n".join(block).rstrip())
+        said.append("kept as it was: " + first[:80])
+    final = None
+    for name, it in list(named.items()):
+        if name == "last":
+            continue
+        if "tie.spec" in "\n".join(it["defs"]):
+            final = it["defs"][0]
+            continue
+        if it["loop"]:
+            kind, loop = it["loop"]
+            new, variables = f.loops.get(norm(loop), (None, []))
+            if not new:
+                said.append(f"no loop {loop}")
+                continue
+            d = it["defs"][0]
+            head, rhs = d.split("=", 1)
+            args = head.split()[1:]
+            taken = {}
+            for a in args:
+                if a == "_":
+                    continue
+                base = re.sub(r"[₀0]$", "", a) if a.endswith("₀") else a
+                taken[a] = f"l.initial.{base}" if a.endswith("₀") else f"l.{base}"
+            for a, to in sorted(taken.items(), key=lambda x: -len(x[0])):
+                rhs = re.sub(r"(?<![\w'.₀-])%s(?![\w'₀-])" % re.escape(a), to, rhs)
+            if [re.sub("₀$", "", a) for a in args if not a.endswith("₀")] != variables:
+                said.append(f"loop {loop}: {args} and {variables}")
+            unf = it["unfolding"]
+            invariants.append((it["comment"], f"abbrev pub {kind}-{new} : goal.{kind}-{new}", unf, f"{kind}-{new} l ={rhs}"))
+        elif it["goal"]:
+            new = f.goals.get(norm(it["goal"]))
+            if not new:
+                said.append(f"no goal {it['goal']}")
+                continue
+            d = it["defs"][0]
+            m = re.match(r"%s((?: %s)*) =(.*)" % (re.escape(name), NAME), d, re.S)
+            if not m:
+                said.append("by clauses: " + d[:60])
+                continue
+            body = f.body(m.group(2))
+            if TRIVIAL.match(body.strip()) and not it["unfolding"]:
+                continue
+            args = m.group(1).replace(" κs", "")
+            answers.append((it["comment"], f"pub {new} : goal.{new}", it["unfolding"], f"{new}{args} ={body}"))
+        else:
+            helpers.append("\n".join(it["comment"] + [it["signature"]] + ([it["unfolding"]] if it["unfolding"] else []) + it["defs"]))
+    # the answers that stand in the list, by their place
+    if final and "tie.spec" in final:
+        rest = final[final.index("tie.spec") + 8 :]
+        items, depth, word = [], 0, ""
+        for ch in rest:
+            if ch == "(":
+                depth += 1
+            if ch == ")":
+                depth -= 1
+                if depth < 0:
+                    break
+            if ch.isspace() and depth == 0:
+                if word:
+                    items.append(word)
+                word = ""
+            else:
+                word += ch
+        if word:
+            items.append(word)
+        items = [i for i in items if not (i in named and named[i]["loop"])]
+        if len(items) != len(f.order):
+            said.append(f"{len(items)} answers in the list and {len(f.order)} goals")
+            lambdas = [i for i in items if i.startswith("(λ") and not re.match(r"\(λ c(?: κs)?\. (search rules|omega arith|refl)\)$", i)]
+            said += ["in the list: " + i[:120] for i in lambdas]
+        else:
+            for i, new in zip(items, f.order):
+                m = re.match(r"\(λ (c(?: κs)?)\. (.*)\)$", i, re.S)
+                if m and not TRIVIAL.match(m.group(2).strip()):
+                    answers.append(([], f"pub {new} : goal.{new}", None, f"{new} c = {f.body(m.group(2))}"))
+                elif not m and i not in named:
+                    said.append("in the list: " + i[:120])
+    top = comments or pending
+    def write(file, given, items, more):
+        path_to = f"{folder}/{file}"
+        if not items:
+            return
+        lines = list(top) + uses + [f"use Rattle.{crate}.proofs.{path}.{given} as goal", ""]
+        for h in more:
+            lines += [h, ""]
+        for comment, sig, unf, definition in items:
+            lines += comment + [sig] + ([unf] if unf else []) + [definition, ""]
+        with open(path_to, "w") as out:
+            out.write("\n".join(lines).rstrip() + "\n")
+    write("Invariants.antt", "Given", invariants, [])
+    write("Answers.antt", "Goals", answers, helpers)
+    os.remove(folder + "/Proof.antt")
+    if helpers and not answers:
+        said.append("helpers without answers")
+    for s in said:
+        print(f"{crate} {path}: {s}")
+
+
+def main(names, crates):
+    clauses = contracts(sorted(os.listdir("crates")))
+    for crate in crates:
+        with open(f"{names}/crates/{crate}/names.json") as f:
+            known = json.load(f)
+        for key, fn in known.items():
+            m = re.match(r"Rattle-%s-proofs\.(.*)\.Lts$" % crate, key)
+            if m and os.path.exists(f"crates/{crate}/proofs/" + m.group(1).replace(".", "/") + "/Proof.antt"):
+                convert(crate, m.group(1), fn, clauses)
+
+
+if __name__ == "__main__":
+    main(sys.argv[1], sys.argv[2:])
