@@ -11,7 +11,7 @@ import os
 import re
 import sys
 
-NAME = r"[A-Za-z_μ][\w'₀-₉-]*"
+NAME = r"[A-Za-zα-ωΑ-Ω_][\w'₀-₉-]*"
 TRIVIAL = re.compile(r"^\(?(search rules|omega arith|refl)\)?$")
 
 
@@ -62,6 +62,19 @@ class Function:
                 if called:
                     self.callee[norm(old)] = called
         self.goals = {norm(o): n for o, n in names["needs"]}
+        # where each goal is asked, each place's parent, step and arm
+        self.asked = {n: at[0] for (o, n), at in zip(names["needs"], names["asked_at"])}
+        self.place = {}
+        for (place, parent, (old, new), called, _), arm in zip(names["places"], names["arms"]):
+            keys = {}
+            for field, step, olds in (arm[2] if arm else []):
+                for it in olds:
+                    keys[norm(it)] = field
+                if not olds:
+                    keys["rest"] = field + ".rest"
+            self.place[place] = (parent, norm(old), new, called, keys)
+        self.changed = [c for c in names["changed"]]
+        self.at = None
         self.order = [n for o, n in names["needs"]]
         self.loops = {norm(o): (n, vs) for (o, n), vs in names["loops"]}
         self.typed = {}
@@ -97,6 +110,25 @@ class Function:
         root, rest = parts[0], [p for p in parts[1:] if p != "before"]
         out, called, in_requires, in_ensures = [root], None, False, None
         kind = self.alias.get(root)
+        at = self.at if root == "c" else kind[1] if kind and kind[0] == "place" else None
+        for p in parts[1:]:
+            if p == "before" and at:
+                at = self.place[at][0]
+            elif p != "before":
+                break
+        here = self.place.get(at) if at else None
+        keys = {}
+        if here and rest and norm(rest[0]) == here[1] and here[1]:
+            keys = here[4]
+            called = here[3]
+            if len(rest) > 1 and rest[1] == "given" and norm(rest[0]) in self.typed:
+                pass
+            else:
+                out.append(here[2])
+                rest = rest[1:]
+                if rest and norm(rest[0]) in keys:
+                    out.append(keys[norm(rest[0])])
+                    rest = rest[1:]
         if kind and kind[0] == "requires":
             in_requires = True
         if kind and kind[0] == "ensures":
@@ -125,11 +157,15 @@ class Function:
             else:
                 out.append(p)
             i += 1
+        if at and not rest and len(out) == 1:
+            self.last = ("place", at)
+            return root
         self.last = ("requires", None) if in_requires else ("ensures", in_ensures) if in_ensures else ("step", called)
         return ".".join(out)
 
-    def body(self, text):
+    def body(self, text, goal=None):
         self.alias = {}
+        self.at = self.asked.get(goal)
         text = text.replace(" κs", "")
 
         def bind(m):
@@ -202,19 +238,21 @@ def convert(crate, path, fn, clauses):
             head, rhs = d.split("=", 1)
             args = head.split()[1:]
             taken = {}
-            for a in args:
-                if a == "_":
-                    continue
-                base = re.sub(r"[₀0]$", "", a) if a.endswith("₀") else a
-                taken[a] = f"l.initial.{base}" if a.endswith("₀") else f"l.{base}"
-            for a, to in sorted(taken.items(), key=lambda x: -len(x[0])):
-                rhs = re.sub(r"(?<![\w'.₀-])%s(?![\w'₀-])" % re.escape(a), to, rhs)
-            if [re.sub("₀$", "", a) for a in args if not a.endswith("₀")] != variables:
-                said.append(f"loop {loop}: {args} and {variables}")
+            changed = f.changed[[norm(o) for (o, n), _ in fn["loops"]].index(norm(loop))]
+            places = [f"l.initial.{v}" if c else f"l.{v}" for v, c in zip(variables, changed)] + [f"l.{v}" for v, c in zip(variables, changed) if c]
+            if len(places) != len(args):
+                said.append(f"loop {loop}: {args} and {variables} {changed}")
+            for a, to in zip(args, places):
+                if a != "_":
+                    taken[a] = to
+            rhs = re.sub(r"(?<![\w'.₀₁₂-])%s[₀-₉]*(?![\w'₀-])" % NAME, lambda m: taken.get(m.group(0), m.group(0)), rhs)
             unf = it["unfolding"]
             invariants.append((it["comment"], f"abbrev pub {kind}-{new} : goal.{kind}-{new}", unf, f"{kind}-{new} l ={rhs}"))
         elif it["goal"]:
-            new = f.goals.get(norm(it["goal"]))
+            old = norm(it["goal"])
+            other = re.sub(r"^overflow_(add|sub|mul|cast|shl|shr)_", r"\1_", old)
+            other = re.sub(r"^slice_bounds_(.*)_(start|end)(_\d+)?$", r"part_\1_\2\3", other)
+            new = f.goals.get(old) or f.goals.get(other)
             if not new:
                 said.append(f"no goal {it['goal']}")
                 continue
@@ -223,7 +261,7 @@ def convert(crate, path, fn, clauses):
             if not m:
                 said.append("by clauses: " + d[:60])
                 continue
-            body = f.body(m.group(2))
+            body = f.body(m.group(2), new)
             if TRIVIAL.match(body.strip()) and not it["unfolding"]:
                 continue
             args = m.group(1).replace(" κs", "")
@@ -258,7 +296,7 @@ def convert(crate, path, fn, clauses):
             for i, new in zip(items, f.order):
                 m = re.match(r"\(λ (c(?: κs)?)\. (.*)\)$", i, re.S)
                 if m and not TRIVIAL.match(m.group(2).strip()):
-                    answers.append(([], f"pub {new} : goal.{new}", None, f"{new} c = {f.body(m.group(2))}"))
+                    answers.append(([], f"pub {new} : goal.{new}", None, f"{new} c = {f.body(m.group(2), new)}"))
                 elif not m and i not in named:
                     said.append("in the list: " + i[:120])
     top = comments or pending
@@ -266,7 +304,9 @@ def convert(crate, path, fn, clauses):
         path_to = f"{folder}/{file}"
         if not items:
             return
-        lines = list(top) + uses + [f"use Rattle.{crate}.proofs.{path}.{given} as goal", ""]
+        bodies = "\n".join([i[3] for i in items] + more)
+        extra = ["use borrow.Author.Rules.{rules}"] if re.search(r"(?<![\w.'-])rules(?![\w'-])", bodies) else []
+        lines = list(top) + uses + extra + [f"use Rattle.{crate}.proofs.{path}.{given} as goal", ""]
         for h in more:
             lines += [h, ""]
         for comment, sig, unf, definition in items:

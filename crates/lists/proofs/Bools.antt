@@ -1,10 +1,10 @@
 -- Choices by a Boolean. Assumes nothing.
 use mathlib.Core.Path.{◌≡◌, refl, sym, ◌∙◌}
-use mathlib.Core.Bool.{Bool, true, false, not, cond, ◌&&◌, ◌||◌}
+use mathlib.Core.Bool.{Bool, true, false, cond, ◌&&◌, ◌||◌}
 use Prim.Native.Nat.{ℕ}
 use native.Mathlib.Omega.{arith}
 use lib.Dec.{leb, eqb}
-use borrow.Author.Tests.{not-true, not-false, lt-ltb, le-ltb, le-leb, lt-leb, eq-eqb, ne_eqb, leb-true, eqb-true, eqb-false}
+use borrow.Author.Tests.{lt-ltb, le-ltb, le-leb, lt-leb, eq-eqb, ne_eqb, leb-true, eqb-true, eqb-false}
 use Rattle.lists.specs.Lists.{bit}
 
 -- what holds of both sides of a choice, each where it is taken
@@ -33,11 +33,11 @@ or-true false b e = (refl, e)
 or-true true b e = let z : ◌≡◌ {A = Bool} true false = e in (z, cc)
 
 -- what a test `if !t` shows of the definition that t equals
-pub denied : (t : Bool) {b : Bool} → t ≡ b → not t ≡ true → b ≡ false
-denied t q f = sym q ∙ not-true t f
+pub denied : (t : Bool) {b : Bool} → t ≡ b → t ≡ false → b ≡ false
+denied t q f = sym q ∙ f
 
-pub granted : (t : Bool) {b : Bool} → t ≡ b → not t ≡ false → b ≡ true
-granted t q f = sym q ∙ not-false t f
+pub granted : (t : Bool) {b : Bool} → t ≡ b → t ≡ true → b ≡ true
+granted t q f = sym q ∙ f
 
 -- a Boolean as a number, and back
 pub bit_le : (b : Bool) → leb (bit b) 1 ≡ true

@@ -1,0 +1,34 @@
+-- `byte_calls::save_write` meets its contract. Assumes nothing.
+use mathlib.Core.Path.{sym, ap, ◌∙◌}
+use mathlib.Core.List.{[]}
+use lib.ListN.{length}
+use Rattle.cart.specs.declared.Reply.{Reply}
+use Rattle.cart.specs.Calls.{save_write, questions}
+use Rattle.cart.specs.Replies.{tallied, store_replied}
+use Rattle.cart.proofs.Replies.{step-no, step-yes, store-door-yes}
+use Rattle.byte_calls.proofs.save_write.Goals as goal
+
+pub returns-then-refusal-ne0 : goal.returns-then-refusal-ne0
+unfolding questions
+returns-then-refusal-ne0 c =
+    let a = c.args in
+    let d = c.store_door-refusal in
+    let s = tallied a.cart a.memory-1.now a.tallies-1.now in
+    ap (λ (r : Reply). (r, a.memory-1.now, a.tallies-1.now)) c.refuse.ensures
+    ∙ ap store_replied (sym (step-no (save_write a.address a.value) [] s d.result d.ensures c.if-refusal-ne0.true))
+
+pub write_save-requires : goal.write_save-requires
+write_save-requires c =
+    let a = c.args in
+    let d = c.store_door-refusal in
+    let y = store-door-yes a.cart (length a.memory-1.now) (length a.tallies-1.now) d.result d.ensures c.if-refusal-ne0.false in
+    (y.1, y.2)
+
+pub returns : goal.returns
+unfolding questions
+returns c =
+    let a = c.args in
+    let d = c.store_door-refusal in
+    let s = tallied a.cart a.memory-1.now a.tallies-1.now in
+    c.write_save.ensures
+    ∙ ap store_replied (sym (step-yes (save_write a.address a.value) [] s d.result d.ensures c.if-refusal-ne0.false))

@@ -1,0 +1,24 @@
+-- `c_serial_calls::turn_in` meets its contract. Assumes nothing.
+use mathlib.Core.Path.{sym, subst, ap, ◌∙◌}
+use mathlib.Core.Bool.{Bool}
+use mathlib.Core.List.{[]}
+use lib.ListN.{length}
+use Rattle.memory.specs.Memory.{stored, stores, Fits, with_count}
+use Rattle.eeprom.specs.declared.EepromStep.{EepromStep}
+use Rattle.c_record.specs.Fields.{with_serial}
+use Rattle.c_serial_calls.proofs.turn_in.Goals as goal
+
+pub apply-requires : goal.apply-requires
+apply-requires c =
+    let s = c in
+    (s.requires.tallied, subst (λ (t : EepromStep). Fits t.store (length s.args.memory.now)) (sym c.turn-t.ensures) s.requires.b_bound.1)
+
+pub returns : goal.returns
+returns c =
+    let a = c.args in
+    let t = c.turn-t in (
+      c.put_eeprom.ensures
+          ∙ ap (λ (b : Bool). with_serial a.cart.now b t.result.eeprom) c.stores.ensures
+          ∙ ap (λ (x : EepromStep). with_serial a.cart.now (stores x.store) x.eeprom) t.ensures,
+      c.apply.ensures ∙ ap (λ (x : EepromStep). with_count a.memory-1.now (stored x.store [] a.memory-1.now) a.tallies-1.now) t.ensures,
+    )

@@ -1,0 +1,44 @@
+-- `c_state_calls::states::restore_chip_state` meets its contract. Assumes nothing.
+use mathlib.Core.Path.{sym, ap, ◌∙◌}
+use mathlib.Core.List.{[]}
+use native.Mathlib.Omega.{arith}
+use lib.Seq.{length-take-le}
+use Rattle.lists.proofs.Bools.{denied, granted}
+use Rattle.cart.specs.Calls.{restore}
+use Rattle.chip_record.proofs.Layouts.{taken}
+use Rattle.c_record.specs.AtExit.{plain}
+use Rattle.c_record.proofs.RecordBytes.{are-bytes}
+use Rattle.c_record.proofs.Calls.{no_record}
+use Rattle.c_state_calls.proofs.StateCalls.{restore-no, restore-yes}
+use borrow.Author.Rules.{rules}
+use Rattle.c_state_calls.proofs.states.restore_chip_state.Goals as goal
+
+pub returns-then-not-is_record : goal.returns-then-not-is_record
+returns-then-not-is_record c =
+    let a = c.args in
+    λ m. ap plain (no_record (restore a.bytes.now) [] a.cart.now m [] (denied _ c.is_record.ensures.value c.if-not-is_record.true))
+
+pub returns-then-refusal-ne0 : goal.returns-then-refusal-ne0
+returns-then-refusal-ne0 c =
+    let a = c.args in
+    let i = c.is_record.ensures in
+    λ m. restore-no a.cart.now (i.valid (granted _ i.value c.if-not-is_record.false)) a.bytes.now m _ c.state_questions-refusal.ensures c.if-refusal-ne0.true
+
+pub slice_bounds-copy_in-end-2 : goal.slice_bounds-copy_in-end-2
+slice_bounds-copy_in-end-2 c =
+    let b = c.args.bytes.now in
+    sym (length-take-le 18 b (taken b (sym c.state_questions-refusal.ensures ∙ c.if-refusal-ne0.false)).long)
+
+pub copy_in-requires : goal.copy_in-requires
+copy_in-requires c =
+    let b = c.args.bytes.now in
+    (search rules, length-take-le 18 b (taken b (sym c.state_questions-refusal.ensures ∙ c.if-refusal-ne0.false)).long)
+
+pub returns : goal.returns
+returns c =
+    let a = c.args in
+    let i = c.is_record.ensures in
+    let k = are-bytes a.bytes.now (λ j. omega (arith, c.type_inv.bytes j)) in
+    λ m.
+    restore-yes a.cart.now (i.valid (granted _ i.value c.if-not-is_record.false)) a.bytes.now m _ c.state_questions-refusal.ensures c.if-refusal-ne0.false k
+    c.copy_in.ensures c.put_flag.ensures

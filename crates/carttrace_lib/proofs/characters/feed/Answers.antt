@@ -1,0 +1,63 @@
+use mathlib.Core.Path.{◌≡◌}
+use Prim.Native.Nat.{◌-◌}
+use native.Mathlib.Omega.{arith}
+use lib.ListN.{length, get_or, length-drop}
+use Rattle.lists.proofs.Parts.{rest}
+use Rattle.carttrace_lib.specs.Session.{buffers, took}
+use Rattle.carttrace_lib.proofs.Feeding.{Fed, fed-start, out-length, fed-more, fed-all}
+use Rattle.carttrace_lib.proofs.Short.{took-short}
+use Rattle.carttrace_lib.proofs.characters.feed.Goals as goal
+
+pub loop-i-init : goal.loop-i-init
+loop-i-init c = fed-start _ _ _ _ c.requires.in_bounds_2.1
+
+pub bounds-input-i : goal.bounds-input-i
+bounds-input-i c = omega (arith, c.loop-i-test)
+
+pub slice_bounds-take_in-count : goal.slice_bounds-take_in-count
+slice_bounds-take_in-count c = omega (arith, c.loop-i.invariant.len_ok, c.loop-i.invariant.place_ok, c.loop-i.invariant.room_ok, out-length c.loop-i.invariant)
+
+pub slice_bounds-take_in-start : goal.slice_bounds-take_in-start
+slice_bounds-take_in-start c = omega (arith, c.loop-i.invariant.len_ok, c.loop-i.invariant.place_ok, c.loop-i.invariant.room_ok, out-length c.loop-i.invariant)
+
+pub take_in-t-requires : goal.take_in-t-requires
+take_in-t-requires c =
+    let b = c.loop-i in
+    let f = b.invariant in
+    let p = c.requires in
+    let l = length-drop b.len b.out-1 in (
+      omega (arith, f.memory_ok, p.in_bounds),
+      (omega (arith, f.tallies_ok, p.in_bounds_2.0), rw (rest b.len b.out-1) (omega (arith, l, f.len_ok, f.place_ok, f.room_ok, out-length f, c.loop-i-test))),
+    )
+
+pub overflow_add-len : goal.overflow_add-len
+overflow_add-len c =
+    let b = c.loop-i in
+    let x = get_or c.args.input.now b.i 0 in
+    let m = buffers b.memory-1 b.tallies-1 in
+    let n : c.take_in-t.result.len ≡ length (took b.s-1 x m).text = λ i. (c.take_in-t.ensures i).0.len in
+    omega (arith, n, took-short b.s-1 x m, b.invariant.len_ok, c.loop-i-test, b.invariant.room_ok, c.well-formed)
+
+pub overflow_add-i : goal.overflow_add-i
+overflow_add-i c = omega (arith, c.loop-i-test, c.well-formed)
+
+pub loop-i-smaller : goal.loop-i-smaller
+loop-i-smaller c = omega (arith, c.loop-i-test)
+
+pub loop-i-preserved : goal.loop-i-preserved
+loop-i-preserved c = fed-more c.loop-i.invariant (omega (arith, c.loop-i-test)) c.take_in-t.ensures c.memory-1.given c.tallies-1.given
+
+pub shape_of-memory : goal.shape_of-memory
+shape_of-memory c = c.loop-i.invariant.memory_ok
+
+pub shape_of-tallies : goal.shape_of-tallies
+shape_of-tallies c = c.loop-i.invariant.tallies_ok
+
+pub shape_of-out : goal.shape_of-out
+shape_of-out c = out-length c.loop-i.invariant
+
+pub returns : goal.returns
+returns c =
+    let b = c.loop-i.invariant in
+    let n : c.Told-with.result.len ≡ c.loop-i.len = λ i. (c.Told-with.ensures i).len in
+    (fed-all b (omega (arith, c.loop-i-test)) c.Told-with.ensures, omega (arith, n, b.len_ok, b.place_ok, b.room_ok))

@@ -1,0 +1,56 @@
+-- `cut_call::cut` meets its contract. Assumes nothing.
+use mathlib.Core.Path.{sym, ap, ap₂, ◌∙◌}
+use mathlib.Core.List.{List}
+use mathlib.Core.Option.{Option}
+use Prim.Native.Nat.{ℕ}
+use native.Mathlib.Omega.{arith}
+use lib.ListN.{length, drop, length-append}
+use lib.Seq.{length-take-le}
+use Rattle.cart.specs.Record.{State, from_bytes}
+use Rattle.cart.specs.Calls.{restore}
+use Rattle.cart.specs.Cut.{reloaded, cut}
+use Rattle.cart.specs.Replies.{state}
+use Rattle.cart.proofs.Stretches.{file-left-apart, bytes-left-apart}
+use Rattle.cut_call.proofs.Cuts.{value-fits, reloads, bytes-are}
+use Rattle.cut_call.proofs.cut.Goals as goal
+
+pub slice_bounds-save_data-end-2 : goal.slice_bounds-save_data-end-2
+slice_bounds-save_data-end-2 c =
+    let s = c in
+    sym (length-take-le _ s.args.scratch.now s.requires.memory_len.1)
+
+pub slice_bounds-resume-end : goal.slice_bounds-resume-end
+slice_bounds-resume-end c =
+    let d = c in
+    let s = c in
+    let a = s.args in
+    let left = d.save_data-exported.new.1.1.0 in
+    let v = value-fits a.scratch-1.now left a.cart a.memory-1.now d.save_data-exported.result s.requires.cart_value s.requires.memory_len.0 s.requires.memory_len.1 d.save_data-exported.ensures in
+    omega (arith, v, length-append left (drop (length a.memory-1.now) a.scratch-1.now))
+
+pub slice_bounds-resume-end-2 : goal.slice_bounds-resume-end-2
+slice_bounds-resume-end-2 c =
+    let d = c in
+    let s = c in
+    let a = s.args in
+    let left = d.save_data-exported.new.1.1.0 in
+    let v = value-fits a.scratch-1.now left a.cart a.memory-1.now d.save_data-exported.result s.requires.cart_value s.requires.memory_len.0 s.requires.memory_len.1 d.save_data-exported.ensures in
+    sym (length-take-le _ _ (omega (arith, v, length-append left (drop (length a.memory-1.now) a.scratch-1.now))))
+
+pub returns : goal.returns
+unfolding cut
+returns c =
+    let d = c in
+    let s = c in
+    let a = s.args in
+    let m = a.memory-1.now in
+    let ts = a.tallies-1.now in
+    let t = state a.cart m in
+    let f = (from_bytes a.image.now a.part m ts).next in
+    let k = c.chip_state-kept.ensures m in
+    c.resume.ensures
+    ∙ ap₂ (λ (b : List ℕ) (u : State). (restore b u).next)
+    ((λ i. (k i).0.bytes) ∙ bytes-are t s.requires.cart_value ∙ sym (bytes-left-apart ts t))
+    (reloads a.scratch-1.now d.save_data-exported.new.1.1.0 a.cart m d.save_data-exported.result s.requires.cart_value s.requires.memory_len.0 s.requires.memory_len.1 d.save_data-exported.ensures
+    (drop (length m) a.scratch-1.now) f
+    ∙ ap (λ (o : Option (List ℕ)). reloaded o f) (sym (file-left-apart ts t)))

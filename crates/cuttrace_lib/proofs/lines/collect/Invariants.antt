@@ -1,0 +1,12 @@
+use Prim.Native.Nat.{◌+◌, ◌-◌}
+use native.Mathlib.Omega.{arith}
+use lib.ListN.{length, drop, length-take, length-drop}
+use Rattle.cuttrace_lib.proofs.Codes.{Collected, collect-start, collect-more, collect-all}
+use Rattle.cuttrace_lib.proofs.Texts.{part-long}
+use Rattle.cuttrace_lib.proofs.lines.collect.Given as goal
+
+abbrev pub invariant-loop-i : goal.invariant-loop-i
+invariant-loop-i l = Collected l.text l.initial.room l.room l.used l.i
+
+abbrev pub decreases-loop-i : goal.decreases-loop-i
+decreases-loop-i l = length l.text + 1 - l.i

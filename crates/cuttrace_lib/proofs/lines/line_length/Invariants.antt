@@ -1,0 +1,14 @@
+use mathlib.Core.Path.{◌≡◌, refl, sym}
+use Prim.Native.Nat.{◌+◌, ◌-◌, ◌≤◌}
+use native.Mathlib.Omega.{arith}
+use native.Mathlib.Nat.{zero-add}
+use lib.ListN.{length, drop}
+use Rattle.cuttrace_lib.specs.Lines.{line_length}
+use Rattle.cuttrace_lib.proofs.Texts.{length_more, length_found, length-end}
+use Rattle.cuttrace_lib.proofs.lines.line_length.Given as goal
+
+abbrev pub invariant-loop-i : goal.invariant-loop-i
+invariant-loop-i l = (l.i ≤ length l.text) × (line_length l.text ≡ l.i + line_length (drop l.i l.text))
+
+abbrev pub decreases-loop-i : goal.decreases-loop-i
+decreases-loop-i l = length l.text - l.i

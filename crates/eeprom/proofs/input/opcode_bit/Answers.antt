@@ -1,0 +1,16 @@
+-- `eeprom::input::opcode_bit` meets its contract. Assumes nothing.
+use mathlib.Core.Path.{sym, ap, ◌∙◌}
+use Rattle.eeprom.specs.Eeprom.{shifted, decoded, opcode_bit}
+use Rattle.eeprom.proofs.input.opcode_bit.Goals as goal
+
+pub returns-in-More : goal.returns-in-More
+unfolding opcode_bit
+returns-in-More c =
+    let e = c.args.e in
+    c.more.ensures ∙ ap (shifted e (decoded e)) (sym c.s-1.is.1 ∙ c.shift_in-s.ensures)
+
+pub returns-in-Full : goal.returns-in-Full
+unfolding opcode_bit
+returns-in-Full c =
+    let e = c.args.e in
+    c.decoded.ensures ∙ ap (shifted e (decoded e)) (sym c.s-in-Full-1.is.1 ∙ c.shift_in-s.ensures)

@@ -1,0 +1,21 @@
+-- `file_sizes::kept_part` meets its contract. Assumes nothing.
+use mathlib.Core.Path.{sym, ◌∙◌}
+use lib.ListN.{length}
+use lib.Seq.{length-take-le}
+use Rattle.file_sizes.specs.SaveFit.{kept_part}
+use Rattle.file_sizes.proofs.Fits.{keeps-le}
+use Rattle.file_sizes.proofs.kept_part.Goals as goal
+
+pub slice_bounds-result-end : goal.slice_bounds-result-end
+slice_bounds-result-end c =
+    let a = c.args in
+    let g = c.fit-1.given in
+    sym (length-take-le g.0.0 a.file.now (keeps-le a.kind (length a.file.now) g.0.0 (sym c.save_fit-fit.ensures ∙ g.1)))
+
+pub returns-in-Keeps : goal.returns-in-Keeps
+unfolding kept_part
+returns-in-Keeps c = rw (sym c.save_fit-fit.ensures ∙ c.fit-1.given.1)
+
+pub returns-in-Refused : goal.returns-in-Refused
+unfolding kept_part
+returns-in-Refused c = rw (sym c.save_fit-fit.ensures ∙ c.enum_told-1.given.1)

@@ -1,0 +1,12 @@
+use mathlib.Core.Path.{◌∙◌}
+use borrow.Author.Tests.{le-leb, lt-leb}
+use Rattle.file_sizes.specs.SaveFit.{save_fit_of}
+use Rattle.file_sizes.proofs.save_fit_of.Goals as goal
+
+pub returns-then-image-lt192 : goal.returns-then-image-lt192
+unfolding save_fit_of
+returns-then-image-lt192 c = rw (lt-leb _ _ c.if-image-lt192.true)
+
+pub returns : goal.returns
+unfolding save_fit_of
+returns c = c.save_fit.ensures ∙ rw (c.detect_save_type.ensures, le-leb _ _ c.if-image-lt192.false)

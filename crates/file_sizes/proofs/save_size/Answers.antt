@@ -1,0 +1,11 @@
+use native.Mathlib.Omega.{arith}
+use Rattle.file_sizes.specs.SaveFit.{save_size}
+use Rattle.kind.proofs.Numbers.{number_lt, by_number}
+use Rattle.file_sizes.proofs.save_size.Goals as goal
+
+pub offset_bounds-kind_number : goal.offset_bounds-kind_number
+offset_bounds-kind_number c = omega (arith, c.kind_number.ensures, number_lt c.args.kind)
+
+pub returns : goal.returns
+unfolding save_size
+returns c = rw c.kind_number.ensures (by_number c.args.kind 0 32768 65536 131072 8192 8192)

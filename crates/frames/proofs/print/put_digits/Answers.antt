@@ -1,0 +1,10 @@
+use mathlib.Core.Path.{refl}
+use native.Mathlib.Omega.{arith}
+use lib.ListN.{length-set}
+use Rattle.frames.proofs.print.put_digits.Goals as goal
+
+pub bounds-out-at-2 : goal.bounds-out-at-2
+bounds-out-at-2 c = simp length-set (omega (arith, c.requires))
+
+pub returns : goal.returns
+returns c = (simp length-set refl, rw (c.character-2.ensures, c.character.ensures))

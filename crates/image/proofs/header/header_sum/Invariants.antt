@@ -1,0 +1,13 @@
+-- `image::header::header_sum` meets its contract: what is left to subtract, from the sum so far, gives the whole. Assumes nothing.
+use Rattle.std.proofs.Common.{◌≡◌, ℕ, ◌+◌, ◌-◌, ◌≤◌, sym, refl, ap, ◌∙◌, arith, rules}
+use lib.Seq.{slice}
+use Rattle.lists.specs.Lists.{fold}
+use Rattle.lists.proofs.Parts.{fold_on, fold_end}
+use Rattle.image.specs.Image.{less, header_sum}
+use Rattle.image.proofs.header.header_sum.Given as goal
+
+abbrev pub invariant-loop-i : goal.invariant-loop-i
+invariant-loop-i l = (l.i ≤ 189) × (fold less l.sum (slice l.i 189 l.image) ≡ fold less 0 (slice 160 189 l.image))
+
+abbrev pub decreases-loop-i : goal.decreases-loop-i
+decreases-loop-i l = 189 - l.i

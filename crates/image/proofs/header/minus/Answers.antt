@@ -1,0 +1,7 @@
+use Rattle.std.proofs.Common.{arith, rules}
+use Rattle.image.specs.Image.{less}
+use Rattle.image.proofs.header.minus.Goals as goal
+
+pub returns : goal.returns
+unfolding less
+returns c = omega (arith, c.wrapping_sub_u8.ensures)

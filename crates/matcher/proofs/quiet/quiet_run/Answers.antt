@@ -1,0 +1,45 @@
+-- `matcher::quiet::quiet_run` meets its contract. The invariant: no pair up to place n. Assumes nothing.
+use mathlib.Core.Path.{◌≡◌, refl, sym, ◌∙◌}
+use mathlib.Core.Logic.{◌≢◌}
+use mathlib.Core.Bool.{false}
+use Prim.Native.Nat.{◌+◌, ◌-◌, ◌≤◌}
+use native.Mathlib.Omega.{arith}
+use lib.ListN.{length, take}
+use Rattle.matcher.specs.Quiet.{pairs}
+use Rattle.matcher.proofs.Pairs.{pairs-join, pairs_first, window, quiet_none}
+use Rattle.matcher.proofs.quiet.quiet_run.Goals as goal
+
+pub loop-n-init : goal.loop-n-init
+loop-n-init c =
+    let a = c.args in
+    (omega arith, (λ h. absurd (h refl)), pairs_first a a.part.now (omega arith) c.if-before-part.false)
+
+pub returns-then-pair_in : goal.returns-then-pair_in
+returns-then-pair_in c =
+    let i = c.loop-n.invariant in
+    record { within = i.0; enough = λ _. omega (arith, i.1 c.if-n-eq0.false); calm = i.2 }
+
+pub loop-n-preserved : goal.loop-n-preserved
+loop-n-preserved c =
+    let a = c.args in
+    let b = c.loop-n in
+    let s = a.part.now in (
+      omega arith,
+      (λ _. omega arith),
+      pairs-join a s b.n 32 (omega arith) b.invariant.2
+          (sym (window s b.n (b.n + 33 - b.n) (omega arith) (omega arith)) ∙ sym c.pair_in.ensures ∙ c.if-pair_in.false),
+    )
+
+pub returns : goal.returns
+returns c =
+    let i = c.loop-n.invariant in
+    record { within = i.0; enough = λ _. omega (arith, i.1 (λ e. omega arith)); calm = i.2 }
+
+pub returns-then-part-lt33 : goal.returns-then-part-lt33
+returns-then-part-lt33 c = quiet_none _ _
+
+pub returns-then-before-part : goal.returns-then-before-part
+returns-then-before-part c = quiet_none _ _
+
+pub returns-then-n-eq0 : goal.returns-then-n-eq0
+returns-then-n-eq0 c = quiet_none _ _

@@ -1,0 +1,7 @@
+-- `memory::blank` meets its contract. Assumes nothing.
+use Rattle.memory.specs.Memory.{erased}
+use Rattle.memory.proofs.blank.Goals as goal
+
+pub returns : goal.returns
+unfolding erased
+returns c = (c.fill.ensures, c.clear.ensures)

@@ -1,0 +1,7 @@
+-- `memory::parts::erase` meets its contract. Assumes nothing.
+use Rattle.memory.specs.Memory.{erased}
+use Rattle.memory.proofs.parts.erase.Goals as goal
+
+pub returns : goal.returns
+unfolding erased
+returns c = (c.used-n.ensures, c.fill.ensures)

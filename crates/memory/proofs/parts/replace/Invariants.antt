@@ -1,0 +1,16 @@
+-- `memory::parts::replace` meets its contract, short part by short part. Assumes nothing.
+use mathlib.Core.Path.{◌≡◌, refl}
+use Prim.Native.Nat.{◌-◌, ◌≤◌}
+use native.Mathlib.Omega.{arith}
+use lib.ListN.{length, length-take, length-drop}
+use Rattle.memory.proofs.Replaced.{Below, below_on, plus-le, below_all}
+use Rattle.memory.proofs.parts.replace.Given as goal
+
+abbrev pub invariant-loop-i : goal.invariant-loop-i
+invariant-loop-i l =
+    (l.i ≤ length l.initial.part)
+    × (length l.part ≡ length l.initial.part)
+    × Below l.i l.initial.part l.bytes l.part (record { l.changed = l.changed; l.before = l.before; l.after = l.after })
+
+abbrev pub decreases-loop-i : goal.decreases-loop-i
+decreases-loop-i l = length l.initial.part - l.i

@@ -1,0 +1,27 @@
+use Rattle.lists.proofs.Parts.{length_rest}
+use mathlib.Core.Path.{sym, ap, ◌∙◌}
+use mathlib.Core.List.{◌∷◌, ◌++◌}
+use Prim.Native.Nat.{ℕ}
+use lib.ListN.{replicate}
+use Rattle.cart.specs.Calls.{save_data, step}
+use Rattle.cart.specs.Replies.{state}
+use Rattle.replay.specs.Replay.{four_bytes, file_answer}
+use Rattle.replay.proofs.Pieces.{front-of-tail, first-five}
+use borrow.Author.Rules.{rules}
+use Rattle.replay.proofs.answers.put_file.Goals as goal
+
+pub slice_bounds-put_length-end-2 : goal.slice_bounds-put_length-end-2
+slice_bounds-put_length-end-2 c = sym (first-five c.args.out.now _ c.requires)
+
+pub put_length-requires : goal.put_length-requires
+put_length-requires c = first-five c.args.out.now _ c.requires
+
+pub returns : goal.returns
+returns c = let a = c.args in
+    let e = c.export_into-exported.ensures in (
+      front-of-tail a.out-1.now c.put_length.new.0 c.export_into-exported.new.1.1.0 c.requires
+          ∙ (λ i. c.put_length.ensures i ++ c.export_into-exported.new.1.1.0)
+          ∙ (λ i. ((e i).0.refusal ∷ four_bytes (e i).0.value) ++ (e i).1)
+          ∙ ap (λ (n : ℕ). (file_answer (step save_data (replicate n 0) (state a.cart a.memory.now))).bytes) (length_rest 5 a.out-1.now),
+      search rules,
+    )

@@ -1,0 +1,17 @@
+-- `replay::running::open_and_run` meets its contract. Assumes nothing.
+use native.Mathlib.Omega.{arith}
+use Rattle.replay.proofs.Whole.{opens-alike, opened-fresh}
+use Rattle.replay.proofs.running.open_and_run.Goals as goal
+
+pub run-requires : goal.run-requires
+run-requires c =
+    let s = c in
+    let a = s.args in
+    let o = c.from_number-opened in
+    let l = c.memory-1.given in (
+      opens-alike a.image.now a.part a.memory-1.now a.tallies-1.now s.requires.tallies_value o.new.1.1.0 o.new.1.1.1.0 l c.tallies-1.given,
+      (
+        opened-fresh a.image.now a.part a.memory-1.now a.tallies-1.now s.requires.tallies_value o.ensures,
+        (s.requires.image_value.0, (omega (arith, l, s.requires.image_value.1.0), omega (arith, l, s.requires.image_value.1.1))),
+      ),
+    )

@@ -1,0 +1,37 @@
+-- `title::header_title` meets its contract. Assumes nothing.
+use native.Mathlib.Omega.{arith}
+use mathlib.Core.Path.{sym}
+use lib.Seq.{length-take-le}
+use Rattle.title.proofs.Answers.{title-short, title-text, title-13, title-done}
+use Rattle.title.proofs.header_title.Goals as goal
+
+pub returns-then-image-lt192 : goal.returns-then-image-lt192
+returns-then-image-lt192 c = title-short c.args.image.now c.args.destination.now c.if-image-lt192.true c.refuse.ensures
+
+pub returns-then-destination-len : goal.returns-then-destination-len
+returns-then-destination-len c =
+    let a = c.args in
+    let s = c.replace-n in
+    let t = c.trim-len in
+    title-13 a.image.now a.destination-1.now s.new.0 t.result c.if-image-lt192.false (omega (arith, s.ensures.1, t.ensures.1))
+    (title-text a.image.now s.new.0 s.result t.result s.ensures.0 t.ensures.0) c.if-destination-len.true c.refuse-then-destination-len.ensures
+
+pub slice_bounds-copy-end : goal.slice_bounds-copy-end
+slice_bounds-copy-end c =
+    let s = c.replace-n in
+    let t = c.trim-len in
+    sym (length-take-le t.result s.new.0 (omega (arith, s.ensures.1, t.ensures.1)))
+
+pub copy-requires : goal.copy-requires
+copy-requires c =
+    let s = c.replace-n in
+    let t = c.trim-len in
+    omega (arith, length-take-le t.result s.new.0 (omega (arith, s.ensures.1, t.ensures.1)))
+
+pub returns : goal.returns
+returns c =
+    let a = c.args in
+    let s = c.replace-n in
+    let t = c.trim-len in
+    title-done a.image.now a.destination-1.now s.new.0 t.result c.if-image-lt192.false (omega (arith, s.ensures.1, t.ensures.1))
+    (title-text a.image.now s.new.0 s.result t.result s.ensures.0 t.ensures.0) c.if-destination-len.false c.accept.ensures c.copy.ensures
