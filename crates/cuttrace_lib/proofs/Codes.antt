@@ -53,19 +53,19 @@ read_short (a ∷ b ∷ line) room h = absurd (omega arith)
 abbrev pub Unhexed : List ℕ → Bool → List ℕ → Type 0
 Unhexed line r room = unhex line ≡ cond r (some (take (length line / 2) room)) none
 
-pub read-other : (line room room' : List ℕ) (r : Bool) → not r ≡ true → Unhexed line r room' → Read line Bad room
+pub read-other : (line room room' : List ℕ) (r : Bool) → r ≡ false → Unhexed line r room' → Read line Bad room
 unfolding line_item whole_item
 read-other line room room' r f e =
     let q : unhex line ≡ none = rw (not-true r f) at e in
     no_item line room (rw q)
 
-digits-said : (line room : List ℕ) (r : Bool) → not r ≡ false → Unhexed line r room → unhex line ≡ some (take (length line / 2) room)
+digits-said : (line room : List ℕ) (r : Bool) → r ≡ true → Unhexed line r room → unhex line ≡ some (take (length line / 2) room)
 digits-said line room r f e = rw (not-false r f) at e
 
 bytes-long : (line room : List ℕ) → length line ≤ 2 * length room → length (take (length line / 2) room) ≡ length line / 2
 bytes-long line room h = length-take-le (length line / 2) room (omega arith)
 
-pub read-longer : (line room : List ℕ) (r : Bool) (i : Item) (n : ℕ) → length line ≤ 2 * length room → not r ≡ false → Unhexed line r room
+pub read-longer : (line room : List ℕ) (r : Bool) (i : Item) (n : ℕ) → length line ≤ 2 * length room → r ≡ true → Unhexed line r room
     → i ≡ item_in (take (length line / 2) room) → n ≡ item_length i → (n ≡ length line / 2 → ⊥) → Read line Bad room
 unfolding line_item whole_item
 read-longer line room r i n h f e q l d =
@@ -73,7 +73,7 @@ read-longer line room r i n h f e q l d =
     ne_eqb (item_length (item_in (take (length line / 2) room))) (length (take (length line / 2) room)) (λ z. d (l ∙ ap item_length q ∙ z ∙ bytes-long line room h)) in
     no_item line room (rw (digits-said line room r f e, t))
 
-pub read_whole : (line room : List ℕ) (r : Bool) (i : Item) (n : ℕ) → length line ≤ 2 * length room → not r ≡ false → Unhexed line r room
+pub read_whole : (line room : List ℕ) (r : Bool) (i : Item) (n : ℕ) → length line ≤ 2 * length room → r ≡ true → Unhexed line r room
     → i ≡ item_in (take (length line / 2) room) → n ≡ item_length i → n ≡ length line / 2 → Read line i room
 unfolding line_item whole_item line_code
 read_whole line room r i n h f e q l d =

@@ -10,10 +10,10 @@ use Rattle.image.specs.Image.{image_length, image_question, accepted, refused, a
 
 -- t is what the code found of question 1
 module _ (image : List ℕ) (v : ℕ) (t : Bool) (q : t ≡ image_length (length image)) where
-  pub image-no : {r : Answer} → not t ≡ true → r ≡ refused 1 → r ≡ answered (image_question image ∷ []) v
+  pub image-no : {r : Answer} → t ≡ false → r ≡ refused 1 → r ≡ answered (image_question image ∷ []) v
   image-no f e = e ∙ rw (denied t q f)
 
-  pub image-yes : {r : Answer} (x : ℕ) → not t ≡ false → r ≡ accepted x → x ≡ v → r ≡ answered (image_question image ∷ []) v
+  pub image-yes : {r : Answer} (x : ℕ) → t ≡ true → r ≡ accepted x → x ≡ v → r ≡ answered (image_question image ∷ []) v
   image-yes x f e h = e ∙ ap accepted h ∙ rw (granted t q f)
 
 -- the number of one, two, four bytes

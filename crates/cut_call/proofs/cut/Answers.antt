@@ -17,7 +17,7 @@ use Rattle.cut_call.proofs.cut.Goals as goal
 pub slice_bounds-save_data-end-2 : goal.slice_bounds-save_data-end-2
 slice_bounds-save_data-end-2 c =
     let s = c in
-    sym (length-take-le _ s.args.scratch.now s.requires.memory_len.1)
+    sym (length-take-le _ s.args.scratch.now s.requires.memory_in_bounds)
 
 pub slice_bounds-resume-end : goal.slice_bounds-resume-end
 slice_bounds-resume-end c =
@@ -25,7 +25,7 @@ slice_bounds-resume-end c =
     let s = c in
     let a = s.args in
     let left = d.save_data-exported.new.1.1.0 in
-    let v = value-fits a.scratch-1.now left a.cart a.memory-1.now d.save_data-exported.result s.requires.cart_value s.requires.memory_len.0 s.requires.memory_len.1 d.save_data-exported.ensures in
+    let v = value-fits a.scratch-1.now left a.cart a.memory-1.now d.save_data-exported.result s.requires.cart_value s.requires.memory_len s.requires.memory_in_bounds d.save_data-exported.ensures in
     omega (arith, v, length-append left (drop (length a.memory-1.now) a.scratch-1.now))
 
 pub slice_bounds-resume-end-2 : goal.slice_bounds-resume-end-2
@@ -34,7 +34,7 @@ slice_bounds-resume-end-2 c =
     let s = c in
     let a = s.args in
     let left = d.save_data-exported.new.1.1.0 in
-    let v = value-fits a.scratch-1.now left a.cart a.memory-1.now d.save_data-exported.result s.requires.cart_value s.requires.memory_len.0 s.requires.memory_len.1 d.save_data-exported.ensures in
+    let v = value-fits a.scratch-1.now left a.cart a.memory-1.now d.save_data-exported.result s.requires.cart_value s.requires.memory_len s.requires.memory_in_bounds d.save_data-exported.ensures in
     sym (length-take-le _ _ (omega (arith, v, length-append left (drop (length a.memory-1.now) a.scratch-1.now))))
 
 pub returns : goal.returns
@@ -51,6 +51,6 @@ returns c =
     c.resume.ensures
     ∙ ap₂ (λ (b : List ℕ) (u : State). (restore b u).next)
     ((λ i. (k i).0.bytes) ∙ bytes-are t s.requires.cart_value ∙ sym (bytes-left-apart ts t))
-    (reloads a.scratch-1.now d.save_data-exported.new.1.1.0 a.cart m d.save_data-exported.result s.requires.cart_value s.requires.memory_len.0 s.requires.memory_len.1 d.save_data-exported.ensures
+    (reloads a.scratch-1.now d.save_data-exported.new.1.1.0 a.cart m d.save_data-exported.result s.requires.cart_value s.requires.memory_len s.requires.memory_in_bounds d.save_data-exported.ensures
     (drop (length m) a.scratch-1.now) f
     ∙ ap (λ (o : Option (List ℕ)). reloaded o f) (sym (file-left-apart ts t)))

@@ -19,10 +19,10 @@ pub slice_bounds-blank-end-in-Fresh : goal.slice_bounds-blank-end-in-Fresh
 slice_bounds-blank-end-in-Fresh c = sym (length-take-le _ c.args.memory.now (omega (arith, c.memory_size-n.ensures, memory-small c.first-1.is.0.0, c.requires.in_bounds)))
 
 pub slice_bounds-blank-end-in-Fresh-2 : goal.slice_bounds-blank-end-in-Fresh-2
-slice_bounds-blank-end-in-Fresh-2 c = omega (arith, c.tally_count-k.ensures, tallies-few c.first-1.is.0.0, c.requires.in_bounds_2.0)
+slice_bounds-blank-end-in-Fresh-2 c = omega (arith, c.tally_count-k.ensures, tallies-few c.first-1.is.0.0, c.requires.in_bounds_2)
 
 pub slice_bounds-blank-end-in-Fresh-3 : goal.slice_bounds-blank-end-in-Fresh-3
-slice_bounds-blank-end-in-Fresh-3 c = sym (length-take-le _ c.args.tallies.now (omega (arith, c.tally_count-k.ensures, tallies-few c.first-1.is.0.0, c.requires.in_bounds_2.0)))
+slice_bounds-blank-end-in-Fresh-3 c = sym (length-take-le _ c.args.tallies.now (omega (arith, c.tally_count-k.ensures, tallies-few c.first-1.is.0.0, c.requires.in_bounds_2)))
 
 pub print_status-requires : goal.print_status-requires
 print_status-requires c = omega (arith, c.requires.in_bounds_2.1)

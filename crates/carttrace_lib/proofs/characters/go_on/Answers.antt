@@ -18,10 +18,10 @@ pub slice_bounds-play-end-2 : goal.slice_bounds-play-end-2
 slice_bounds-play-end-2 c = sym (length-take-le _ c.args.memory.now (omega (arith, c.memory_size-n.ensures, memory-small c.args.session.cart-1.kind, c.requires.in_bounds)))
 
 pub slice_bounds-play-end-3 : goal.slice_bounds-play-end-3
-slice_bounds-play-end-3 c = omega (arith, c.tally_count-k.ensures, tallies-few c.args.session.cart-1.kind, c.requires.in_bounds_2.0)
+slice_bounds-play-end-3 c = omega (arith, c.tally_count-k.ensures, tallies-few c.args.session.cart-1.kind, c.requires.in_bounds_2)
 
 pub slice_bounds-play-end-4 : goal.slice_bounds-play-end-4
-slice_bounds-play-end-4 c = sym (length-take-le _ c.args.tallies.now (omega (arith, c.tally_count-k.ensures, tallies-few c.args.session.cart-1.kind, c.requires.in_bounds_2.0)))
+slice_bounds-play-end-4 c = sym (length-take-le _ c.args.tallies.now (omega (arith, c.tally_count-k.ensures, tallies-few c.args.session.cart-1.kind, c.requires.in_bounds_2)))
 
 pub returns : goal.returns
 unfolding continued

@@ -15,6 +15,6 @@ returns c =
     joined entry.args.c entry.args.s.now
     j1.join-a1.result j2.join-a2.result j3.join-a3.result j4.join-a4.result
     j5.join-a5.result j6.join-a6.result c.join.result
-    v.result entry.requires.op_value.1 v.ensures
+    v.result entry.requires.s_len v.ensures
     j1.join-a1.ensures j2.join-a2.ensures j3.join-a3.ensures j4.join-a4.ensures
     j5.join-a5.ensures j6.join-a6.ensures c.join.ensures

@@ -20,7 +20,7 @@ over_block-c-requires c =
     let entry = c in
     let s = entry.args.s.now in
     let l : i + 32768 - i ≡ 32768 = omega arith in
-    (entry.requires.table_value, (entry.requires.op_value, rw l (length-take-le 32768 (drop i s) (omega (arith, length-drop i s)))))
+    record { table_value = entry.requires.table_value; op_value = entry.requires.op_value; s_len = rw l (length-take-le 32768 (drop i s) (omega (arith, length-drop i s))) }
 
 pub loop-i-preserved : goal.loop-i-preserved
 loop-i-preserved c =

@@ -14,7 +14,7 @@ loop-i-init c =
 pub words_in-v-requires : goal.words_in-v-requires
 words_in-v-requires c =
     let b = c.loop-i in
-    (four-fits b.i b.invariant.0 c.loop-i-test.true, c.requires.s_len)
+    record { i_bound = four-fits b.i b.invariant.0 c.loop-i-test.true; s_len = c.requires.s_len }
 
 pub loop-i-preserved : goal.loop-i-preserved
 loop-i-preserved c =

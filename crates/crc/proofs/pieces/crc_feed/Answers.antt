@@ -8,7 +8,7 @@ use Rattle.crc.proofs.pieces.crc_feed.Goals as goal
 
 pub over_bytes-requires : goal.over_bytes-requires
 unfolding is_table crc_bits advanced picked applied doubled
-over_bytes-requires c = (refl, lane-doubled refl)
+over_bytes-requires c = record { table_value = refl; op_value = lane-doubled refl }
 
 pub returns : goal.returns
 unfolding crc_feed

@@ -30,10 +30,10 @@ pub read_line-item-requires : goal.read_line-item-requires
 read_line-item-requires c = omega (arith, length-take (c.loop-i.i + c.line_length.result - c.loop-i.i) (drop c.loop-i.i c.args.text.now), length-drop c.loop-i.i c.args.text.now, part-long c.loop-i.room-1 c.loop-i.used, c.loop-i-test, c.loop-i.invariant.used_ok, c.loop-i.invariant.same_ok, c.loop-i.invariant.room_ok)
 
 pub code_length-used-requires : goal.code_length-used-requires
-code_length-used-requires c = omega (arith, c.read_line-item.ensures.room_after.1, length-take (c.loop-i.i + c.line_length.result - c.loop-i.i) (drop c.loop-i.i c.args.text.now), length-drop c.loop-i.i c.args.text.now, c.requires.text_len_bound)
+code_length-used-requires c = omega (arith, c.read_line-item.ensures.result_in_bounds, length-take (c.loop-i.i + c.line_length.result - c.loop-i.i) (drop c.loop-i.i c.args.text.now), length-drop c.loop-i.i c.args.text.now, c.requires.text_len_bound)
 
 pub overflow_add-used : goal.overflow_add-used
-overflow_add-used c = omega (arith, c.code_length-used.ensures, c.read_line-item.ensures.room_after.1, length-take (c.loop-i.i + c.line_length.result - c.loop-i.i) (drop c.loop-i.i c.args.text.now), length-drop c.loop-i.i c.args.text.now, c.requires.text_len_bound, c.loop-i.invariant.place_ok, c.loop-i.invariant.used_ok)
+overflow_add-used c = omega (arith, c.code_length-used.ensures, c.read_line-item.ensures.result_in_bounds, length-take (c.loop-i.i + c.line_length.result - c.loop-i.i) (drop c.loop-i.i c.args.text.now), length-drop c.loop-i.i c.args.text.now, c.requires.text_len_bound, c.loop-i.invariant.place_ok, c.loop-i.invariant.used_ok)
 
 pub overflow_add-i : goal.overflow_add-i
 overflow_add-i c = omega (arith, c.line_length.ensures.1, part-long c.args.text.now c.loop-i.i, c.loop-i-test, c.requires.text_len_bound)

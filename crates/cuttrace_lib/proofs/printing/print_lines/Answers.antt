@@ -9,7 +9,7 @@ use Rattle.cuttrace_lib.proofs.Prints.{Printed, print-start, out-length, here-fi
 use Rattle.cuttrace_lib.proofs.printing.print_lines.Goals as goal
 
 pub loop-i-init : goal.loop-i-init
-loop-i-init c = let p = c.requires.memory_bound.1 in print-start c.args.text.now c.args.memory c.args.answers.now c.args.room.now c.args.out.now p.0 p.1.0 p.1.1
+loop-i-init c = let p = c.requires.text_len_bound_2 in print-start c.args.text.now c.args.memory c.args.answers.now c.args.room.now c.args.out.now p.0 p.1.0 p.1.1
 
 pub slice_bounds-line_length-count : goal.slice_bounds-line_length-count
 slice_bounds-line_length-count c = omega (arith, c.loop-i-test)
@@ -63,7 +63,7 @@ pub loop-i-preserved : goal.loop-i-preserved
 loop-i-preserved c = print-more c.line_length.result c.item_room.result c.read_line-item.result _ c.print_item-len.new.1.1.0 c.print_item-len.result c.loop-i.invariant (omega (arith, c.loop-i-test)) c.line_length.ensures.0 c.line_length.ensures.1 c.read_line-item.ensures.value c.item_room.ensures c.room-1.given c.print_item-len.ensures
 
 pub ending_room-requires : goal.ending_room-requires
-ending_room-requires c = c.requires.memory_bound.0
+ending_room-requires c = c.requires.memory_bound
 
 pub overflow_add-end-2 : goal.overflow_add-end-2
 overflow_add-end-2 c = omega (arith, c.ending_room.ensures, c.loop-i.invariant.at_ok, c.well-formed)

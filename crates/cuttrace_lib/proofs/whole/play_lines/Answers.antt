@@ -12,16 +12,16 @@ pub slice_bounds-gbasave_replay-end-3 : goal.slice_bounds-gbasave_replay-end-3
 slice_bounds-gbasave_replay-end-3 c = sym (length-take-le c.put_list-used.result c.put_list-used.new.1.1.0 c.put_list-used.ensures.upper_bound)
 
 pub slice_bounds-gbasave_replay-end-4 : goal.slice_bounds-gbasave_replay-end-4
-slice_bounds-gbasave_replay-end-4 c = omega (arith, c.memory_size-n.ensures, memory-small c.args.kind, c.requires.text_bound.1.0)
+slice_bounds-gbasave_replay-end-4 c = omega (arith, c.memory_size-n.ensures, memory-small c.args.kind, c.requires.in_bounds)
 
 pub slice_bounds-gbasave_replay-end-5 : goal.slice_bounds-gbasave_replay-end-5
-slice_bounds-gbasave_replay-end-5 c = sym (length-take-le c.memory_size-n.result c.args.memory.now (omega (arith, c.memory_size-n.ensures, memory-small c.args.kind, c.requires.text_bound.1.0)))
+slice_bounds-gbasave_replay-end-5 c = sym (length-take-le c.memory_size-n.result c.args.memory.now (omega (arith, c.memory_size-n.ensures, memory-small c.args.kind, c.requires.in_bounds)))
 
 pub slice_bounds-gbasave_replay-end-6 : goal.slice_bounds-gbasave_replay-end-6
-slice_bounds-gbasave_replay-end-6 c = omega (arith, c.memory_size-n.ensures, memory-small c.args.kind, c.requires.text_bound.1.1.0)
+slice_bounds-gbasave_replay-end-6 c = omega (arith, c.memory_size-n.ensures, memory-small c.args.kind, c.requires.in_bounds_2)
 
 pub slice_bounds-gbasave_replay-end-7 : goal.slice_bounds-gbasave_replay-end-7
-slice_bounds-gbasave_replay-end-7 c = sym (length-take-le c.memory_size-n.result c.args.scratch.now (omega (arith, c.memory_size-n.ensures, memory-small c.args.kind, c.requires.text_bound.1.1.0)))
+slice_bounds-gbasave_replay-end-7 c = sym (length-take-le c.memory_size-n.result c.args.scratch.now (omega (arith, c.memory_size-n.ensures, memory-small c.args.kind, c.requires.in_bounds_2)))
 
 pub returns-then-refusal-ne0 : goal.returns-then-refusal-ne0
 returns-then-refusal-ne0 c = let a = c.args in

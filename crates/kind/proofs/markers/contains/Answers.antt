@@ -1,7 +1,6 @@
 -- `kind::markers::contains` meets its contract. The invariant: the marker does not stand before place i. Assumes nothing.
 use Rattle.lists.proofs.Parts.{rest}
 use mathlib.Core.Path.{◌≡◌, refl, sym, ap, ◌∙◌}
-use mathlib.Core.Logic.{⊎_elim}
 use mathlib.Core.Bool.{false}
 use Prim.Native.Nat.{◌-◌, ◌≤◌}
 use native.Mathlib.Omega.{arith}
@@ -9,6 +8,7 @@ use lib.ListN.{length, drop, length-drop}
 use Rattle.kind.specs.Kind.{begins, stands}
 use Rattle.kind.proofs.Standing.{stands-empty, stands-short, stands_here, stands_on, other-first}
 use Rattle.kind.proofs.markers.contains.Goals as goal
+use Rattle.kind.proofs.markers.contains.Goals.{then-s-i+else-begins, else-s-i}
 
 pub returns-then-marker-eq0 : goal.returns-then-marker-eq0
 returns-then-marker-eq0 c = stands-empty c.args.marker.now c.args.s.now c.if-marker-eq0.true
@@ -32,7 +32,10 @@ loop-i-preserved c =
     let s = c.args.s.now in
     let p = c.args.marker.now in
     let no : begins p (drop b.i s) ≡ false =
-    ⊎_elim (λ w. ap (begins p) (sym (rest b.i s)) ∙ sym w.2.ensures ∙ w.3.left) (λ w. other-first p s b.i (omega arith) (omega arith) w.left) c.if-s-i.branch in
+    elim c.if-s-i.branch [
+      | then-s-i+else-begins w ↦ ap (begins p) (sym (rest b.i s)) ∙ sym w.begins.ensures ∙ w.if-begins.false
+      | else-s-i w ↦ other-first p s b.i (omega arith) (omega arith) w.if-s-i.false
+    ] in
     (omega arith, sym (stands_on p s b.i (omega arith) no) ∙ b.invariant.1)
 
 pub returns : goal.returns

@@ -15,25 +15,25 @@ use borrow.Author.Rules.{rules}
 use Rattle.replay.proofs.playing.play.Goals as goal
 
 pub show_value-requires : goal.show_value-requires
-show_value-requires c = c.requires.out_len.0 ∙ ap item_room c.item-1.given.1
+show_value-requires c = c.requires.out_len ∙ ap item_room c.item-1.given.1
 
 pub show_status-requires : goal.show_status-requires
-show_status-requires c = c.requires.out_len.0 ∙ ap item_room c.item-in-SaveWrite-1.is.1
+show_status-requires c = c.requires.out_len ∙ ap item_room c.item-in-SaveWrite-1.is.1
 
 pub show_value-requires-in-EepromRead : goal.show_value-requires-in-EepromRead
-show_value-requires-in-EepromRead c = c.requires.out_len.0 ∙ ap item_room c.enum_told-1.given.1
+show_value-requires-in-EepromRead c = c.requires.out_len ∙ ap item_room c.enum_told-1.given.1
 
 pub show_status-requires-in-EepromWrite : goal.show_status-requires-in-EepromWrite
-show_status-requires-in-EepromWrite c = c.requires.out_len.0 ∙ ap item_room c.item-in-EepromWrite-1.is.1
+show_status-requires-in-EepromWrite c = c.requires.out_len ∙ ap item_room c.item-in-EepromWrite-1.is.1
 
 pub show_status-requires-in-BeginDma : goal.show_status-requires-in-BeginDma
-show_status-requires-in-BeginDma c = c.requires.out_len.0 ∙ ap item_room c.item-in-BeginDma-1.is.1
+show_status-requires-in-BeginDma c = c.requires.out_len ∙ ap item_room c.item-in-BeginDma-1.is.1
 
 pub show_value-requires-in-TakeFlag : goal.show_value-requires-in-TakeFlag
-show_value-requires-in-TakeFlag c = c.requires.out_len.0 ∙ ap item_room c.enum_told-in-TakeFlag-1.is.1
+show_value-requires-in-TakeFlag c = c.requires.out_len ∙ ap item_room c.enum_told-in-TakeFlag-1.is.1
 
 pub put_state-requires : goal.put_state-requires
-put_state-requires c = (c.requires.out_len.0 ∙ ap item_room c.enum_told-in-ChipState-1.is.1, search rules)
+put_state-requires c = (c.requires.out_len ∙ ap item_room c.enum_told-in-ChipState-1.is.1, search rules)
 
 pub overflow_add-end : goal.overflow_add-end
 overflow_add-end c = record { fits = omega (arith, load-ends c.args.item _ (length c.args.list.now) c.item-in-LoadSave-1.is.1 c.requires.item_in_bounds, c.well-formed) }
@@ -42,10 +42,10 @@ pub slice_bounds-load_save-end : goal.slice_bounds-load_save-end
 slice_bounds-load_save-end c = load-ends c.args.item _ (length c.args.list.now) c.item-in-LoadSave-1.is.1 c.requires.item_in_bounds
 
 pub show_status-requires-in-LoadSave : goal.show_status-requires-in-LoadSave
-show_status-requires-in-LoadSave c = c.requires.out_len.0 ∙ ap item_room c.item-in-LoadSave-1.is.1
+show_status-requires-in-LoadSave c = c.requires.out_len ∙ ap item_room c.item-in-LoadSave-1.is.1
 
 pub put_file-requires : goal.put_file-requires
-put_file-requires c = omega (arith, c.requires.out_len.0, ap item_room c.enum_told-in-SaveData-1.given.1)
+put_file-requires c = omega (arith, c.requires.out_len, ap item_room c.enum_told-in-SaveData-1.given.1)
 
 pub returns-in-SaveRead : goal.returns-in-SaveRead
 unfolding play
@@ -133,7 +133,7 @@ returns-in-SaveData c = let a = c.args in
     let s = tallied a.cart a.memory-1.now ts in
     (λ i. (s, c.put_file.ensures.out_after i))
     ∙ (λ i. (sym (export-next (replicate (length a.out-1.now - 5) 0) s) i, (file_answer (sym (stretches.apart ts save_data (replicate (length a.out-1.now - 5) 0) u refl) i)).bytes))
-    ∙ ap (λ (n : ℕ). left (file_answer (step save_data (replicate n 0) s))) (file-room a.item-1 _ (length a.out-1.now) c.enum_told-in-SaveData-1.given.1 c.requires.out_len.0)
+    ∙ ap (λ (n : ℕ). left (file_answer (step save_data (replicate n 0) s))) (file-room a.item-1 _ (length a.out-1.now) c.enum_told-in-SaveData-1.given.1 c.requires.out_len)
     ∙ ap (λ (i : Item). left (play (cut_at a.image.now a.part) i a.list.now s)) (sym c.enum_told-in-SaveData-1.given.1)
 
 pub returns-in-Cut : goal.returns-in-Cut
@@ -142,7 +142,7 @@ returns-in-Cut c = let a = c.args in
     let ts = a.tallies-1.now in
     let u = state a.cart a.memory-1.now in
     let s = tallied a.cart a.memory-1.now ts in
-    (λ i. (c.cut.ensures i, nothing a.out-1.now (c.requires.out_len.0 ∙ ap item_room c.enum_told-in-Cut-1.is.1) i))
+    (λ i. (c.cut.ensures i, nothing a.out-1.now (c.requires.out_len ∙ ap item_room c.enum_told-in-Cut-1.is.1) i))
     ∙ ap (λ (i : Item). left (play (cut_at a.image.now a.part) i a.list.now s)) (sym c.enum_told-in-Cut-1.is.1)
 
 pub returns-in-Bad : goal.returns-in-Bad
@@ -151,5 +151,5 @@ returns-in-Bad c = let a = c.args in
     let ts = a.tallies-1.now in
     let u = state a.cart a.memory-1.now in
     let s = tallied a.cart a.memory-1.now ts in
-    (λ i. (s, nothing a.out-1.now (c.requires.out_len.0 ∙ ap item_room c.enum_told-in-Bad-1.is.1) i))
+    (λ i. (s, nothing a.out-1.now (c.requires.out_len ∙ ap item_room c.enum_told-in-Bad-1.is.1) i))
     ∙ ap (λ (i : Item). left (play (cut_at a.image.now a.part) i a.list.now s)) (sym c.enum_told-in-Bad-1.is.1)

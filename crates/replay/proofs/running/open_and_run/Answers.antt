@@ -12,6 +12,6 @@ run-requires c =
       opens-alike a.image.now a.part a.memory-1.now a.tallies-1.now s.requires.tallies_value o.new.1.1.0 o.new.1.1.1.0 l c.tallies-1.given,
       (
         opened-fresh a.image.now a.part a.memory-1.now a.tallies-1.now s.requires.tallies_value o.ensures,
-        (s.requires.image_value.0, (omega (arith, l, s.requires.image_value.1.0), omega (arith, l, s.requires.image_value.1.1))),
+        (s.requires.image_value, (omega (arith, l, s.requires.memory_in_bounds), omega (arith, l, s.requires.memory_in_bounds_2))),
       ),
     )

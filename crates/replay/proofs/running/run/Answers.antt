@@ -19,7 +19,7 @@ use Rattle.replay.proofs.running.run.Goals as goal
 
 pub loop-i-init : goal.loop-i-init
 loop-i-init c = let a = c.args in
-    ran-start a.image.now a.part a.list.now a.memory-1.now a.tallies-1.now a.scratch-1.now a.out-1.now a.fresh c.requires.tallies_value_2.0 c.requires.tallies_value c.requires.tallies_value_2.1.0 c.requires.tallies_value_2.1.1.1
+    ran-start a.image.now a.part a.list.now a.memory-1.now a.tallies-1.now a.scratch-1.now a.out-1.now a.fresh c.requires.tallies_value_2 c.requires.tallies_value c.requires.image_value c.requires.memory_in_bounds_2
 
 pub slice_bounds-item_in-count : goal.slice_bounds-item_in-count
 slice_bounds-item_in-count c = c.loop-i.invariant.place_ok
@@ -53,7 +53,7 @@ play-cart-requires c = let b = c.loop-i in
     let k = has_room b.invariant (omega (arith, c.loop-i-test)) c.item_in-item.result (c.item_in-item.ensures.value ∙ ap item_in (rest b.i l)) in
     let n = c.item_room.result in
     let s = tallied b.cart b.memory-1 b.tallies-1 in
-    (c.item_in-item.ensures.result_in_bounds.0, (piece-length b.at (b.at + n) n b.out-1 refl (omega (arith, c.item_room.ensures, k, out-length b.invariant)) ∙ c.item_room.ensures, (record-allowed s b.invariant.stands.sound, (b.invariant.stands.sound.memory_ok, omega (arith, b.invariant.memory_ok, b.invariant.scratch_ok, c.requires.tallies_value_2.1.1.0)))))
+    (c.item_in-item.ensures.result_in_bounds.0, (piece-length b.at (b.at + n) n b.out-1 refl (omega (arith, c.item_room.ensures, k, out-length b.invariant)) ∙ c.item_room.ensures, (record-allowed s b.invariant.stands.sound, (b.invariant.stands.sound.memory_ok, omega (arith, b.invariant.memory_ok, b.invariant.scratch_ok, c.requires.memory_in_bounds)))))
 
 pub item_length-i-requires : goal.item_length-i-requires
 item_length-i-requires c = omega (arith, c.item_in-item.ensures.result_in_bounds.0, length_rest c.loop-i.i c.args.list.now, c.well-formed)
