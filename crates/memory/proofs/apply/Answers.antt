@@ -23,18 +23,18 @@ pub returns-in-Nothing : goal.returns-in-Nothing
 unfolding stored
 returns-in-Nothing c =
     let a = c.args in
-    rw c.enum_told-1.is.1 (none-counted a.memory-1.now a.tallies-1.now (λ i. omega (arith, c.type_inv.tallies i)))
+    rw c.enum_told-1.is.1 (none-counted a.memory.now a.tallies.now (λ i. omega (arith, c.type_inv.tallies i)))
 
 pub returns-in-Byte : goal.returns-in-Byte
 unfolding stored
 returns-in-Byte c =
     let a = c.args in
     let g = c.store-1.is in
-    stored-case a.store-1 (Byte g.0.0 g.0.1.0) a.file.now a.memory-1.now a.tallies-1.now g.1 c.put_byte.ensures
+    stored-case a.store (Byte g.0.0 g.0.1.0) a.file.now a.memory.now a.tallies.now g.1 c.put_byte.ensures
 
 pub returns-in-Block : goal.returns-in-Block
 unfolding stored
 returns-in-Block c =
     let a = c.args in
     let g = c.store-in-Block-1.is in
-    stored-case a.store-1 (Block g.0.0 g.0.1.0) a.file.now a.memory-1.now a.tallies-1.now g.1 c.apply_any.ensures
+    stored-case a.store (Block g.0.0 g.0.1.0) a.file.now a.memory.now a.tallies.now g.1 c.apply_any.ensures

@@ -42,36 +42,36 @@ pub returns-in-Nothing : goal.returns-in-Nothing
 unfolding stored
 returns-in-Nothing c =
     let a = c.args in
-    rw c.enum_told-1.is.1 (none-counted a.memory-1.now a.tallies-1.now (λ i. omega (arith, c.type_inv.tallies i)))
+    rw c.enum_told-1.is.1 (none-counted a.memory.now a.tallies.now (λ i. omega (arith, c.type_inv.tallies i)))
 
 pub returns-in-Byte : goal.returns-in-Byte
 unfolding stored
 returns-in-Byte c =
     let a = c.args in
     let g = c.store-1.is in
-    stored-case a.store-1 (Byte g.0.0 g.0.1.0) a.file.now a.memory-1.now a.tallies-1.now g.1 c.put_byte.ensures
+    stored-case a.store (Byte g.0.0 g.0.1.0) a.file.now a.memory.now a.tallies.now g.1 c.put_byte.ensures
 
 pub returns-in-Block : goal.returns-in-Block
 unfolding stored
 returns-in-Block c =
     let a = c.args in
     let g = c.store-in-Block-1.is in
-    stored-case a.store-1 (Block g.0.0 g.0.1.0) a.file.now a.memory-1.now a.tallies-1.now g.1 c.put_block.ensures
+    stored-case a.store (Block g.0.0 g.0.1.0) a.file.now a.memory.now a.tallies.now g.1 c.put_block.ensures
 
 pub returns-in-Sector : goal.returns-in-Sector
 unfolding stored
 returns-in-Sector c =
     let a = c.args in
     let g = c.store-in-Sector-1.is in
-    stored-case a.store-1 (Sector g.0.0) a.file.now a.memory-1.now a.tallies-1.now g.1 c.erase_sector.ensures
+    stored-case a.store (Sector g.0.0) a.file.now a.memory.now a.tallies.now g.1 c.erase_sector.ensures
 
 pub returns-in-Chip : goal.returns-in-Chip
 unfolding stored
 returns-in-Chip c =
     let a = c.args in
-    let m = a.memory-1.now in
-    let ts = a.tallies-1.now in
-    stored-case a.store-1 Chip a.file.now m ts c.enum_told-in-Chip-1.given.1
+    let m = a.memory.now in
+    let ts = a.tallies.now in
+    stored-case a.store Chip a.file.now m ts c.enum_told-in-Chip-1.given.1
     (c.load.ensures ∙ ap (λ (l : List ℕ). with_count m l ts) (filled_none (length m)))
 
 pub returns-in-File : goal.returns-in-File
@@ -79,4 +79,4 @@ unfolding stored
 returns-in-File c =
     let a = c.args in
     let g = c.enum_told-in-File-1.is in
-    stored-case a.store-1 File a.file.now a.memory-1.now a.tallies-1.now g.1 c.load-in-File.ensures
+    stored-case a.store File a.file.now a.memory.now a.tallies.now g.1 c.load-in-File.ensures

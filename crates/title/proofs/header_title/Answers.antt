@@ -13,7 +13,7 @@ returns-then-destination-len c =
     let a = c.args in
     let s = c.replace-n in
     let t = c.trim-len in
-    title-13 a.image.now a.destination-1.now s.new.0 t.result c.if-image-lt192.false (omega (arith, s.ensures.1, t.ensures.1))
+    title-13 a.image.now a.destination.now s.new.0 t.result c.if-image-lt192.false (omega (arith, s.ensures.1, t.ensures.1))
     (title-text a.image.now s.new.0 s.result t.result s.ensures.0 t.ensures.0) c.if-destination-len.true c.refuse-then-destination-len.ensures
 
 pub slice_bounds-copy-end : goal.slice_bounds-copy-end
@@ -33,5 +33,5 @@ returns c =
     let a = c.args in
     let s = c.replace-n in
     let t = c.trim-len in
-    title-done a.image.now a.destination-1.now s.new.0 t.result c.if-image-lt192.false (omega (arith, s.ensures.1, t.ensures.1))
+    title-done a.image.now a.destination.now s.new.0 t.result c.if-image-lt192.false (omega (arith, s.ensures.1, t.ensures.1))
     (title-text a.image.now s.new.0 s.result t.result s.ensures.0 t.ensures.0) c.if-destination-len.false c.accept.ensures c.copy.ensures
