@@ -12,6 +12,7 @@ import re
 import sys
 
 NAME = r"[A-Za-zα-ωΑ-Ω_][\w'₀-₉-]*"
+LENT = {}
 TRIVIAL = re.compile(r"^\(?(search rules|omega arith|refl)\)?$")
 
 
@@ -48,6 +49,7 @@ def contracts(crates):
                 head = m.group(2)
                 req = re.findall(r"\brequires\*? ?(\w*) ?\{", head)
                 ens = re.findall(r"\bensures\*? ?(\w*) ?\{", head)
+                LENT[crate, m.group(1)] = re.findall(r"(\w+): &mut ", head.split("requires")[0].split("ensures")[0])
                 found.setdefault((crate, m.group(1)), []).append((module, req, ens))
     return found
 
@@ -64,15 +66,10 @@ class Function:
         self.goals = {norm(o): n for o, n in names["needs"]}
         # where each goal is asked, each place's parent, step and arm
         self.asked = {n: at[0] for (o, n), at in zip(names["needs"], names["asked_at"])}
-        self.place = {}
+        self.place, self.arms = {}, {}
         for (place, parent, (old, new), called, _), arm in zip(names["places"], names["arms"]):
-            keys = {}
-            for field, step, olds in (arm[2] if arm else []):
-                for it in olds:
-                    keys[norm(it)] = field
-                if not olds:
-                    keys["rest"] = field + ".rest"
-            self.place[place] = (parent, norm(old), new, called, keys)
+            self.place[place] = (parent, norm(old), new, called)
+            self.arms[place] = [(arm[0], field, norm(step), path) for field, step, path in arm[2]] if arm else []
         self.changed = [c for c in names["changed"]]
         self.at = None
         self.order = [n for o, n in names["needs"]]
@@ -89,6 +86,7 @@ class Function:
                 if it[0].rstrip(":") == mod:
                     self.own = it
         self.alias = {}
+        self.lent = LENT
 
     def term(self, token):
         """One path into what is known, `c.before.before.loop.i`, with today's names; what it stands for is left in self.last."""
@@ -105,8 +103,22 @@ class Function:
         if not rest:
             return root
         called = None
+        if kind and kind[0] == "arm":
+            to, left = self.in_arm(kind[1], rest)
+            if to:
+                self.last = ("other", None)
+                return ".".join(["c"] + to + left)
         if moved:
             here = self.place.get(at)
+            arms = [(arm, field, [step] + [norm(p) for p in path]) for arm, field, step, path in self.arms.get(at, [])]
+            to, left = self.in_arm(arms, [norm(rest[0])] + rest[1:])
+            longer = [(arm, field, path[len(rest):]) for arm, field, path in arms if path[: len(rest)] == [norm(rest[0])] + rest[1:] and len(path) > len(rest)]
+            if longer:
+                self.last = ("arm", longer)
+                return "c"
+            if to:
+                self.last = ("other", None)
+                return ".".join([root] + to + left)
             if len(rest) > 1 and rest[1] == "given" and norm(rest[0]) in self.typed:
                 var = self.typed[norm(rest[0])]
                 if var in self.live:
@@ -119,11 +131,8 @@ class Function:
             first = norm(rest[0])
             if here and here[1] and first == here[1]:
                 out.append(here[2])
-                called, keys = here[3], here[4]
+                called = here[3]
                 rest = rest[1:]
-                if rest and norm(rest[0]) in keys:
-                    out.append(keys[norm(rest[0])])
-                    rest = rest[1:]
                 self.last = ("step", called)
             elif first not in ("args", "requires", "ranges", "lifetimes", "type_inv", "well_formed") and first in self.steps:
                 out.append(self.steps[first])
@@ -145,6 +154,15 @@ class Function:
             out.append("ensures")
             rest = rest[1:]
             self.last = ("ensures", clauses)
+        elif rest and rest[0] == "new" and called and len(rest) > 1 and rest[1] in ("0", "1"):
+            lent = self.lent.get(tuple(called.split("::")[i] for i in (0, -1)), [])
+            rest, n = rest[1:], 0
+            while rest and rest[0] == "1" and n < len(lent) - 1:
+                n, rest = n + 1, rest[1:]
+            if rest and rest[0] == "0":
+                rest = rest[1:]
+            out += ["new", lent[n] if lent else "0"]
+            self.last = ("other", None)
         elif rest and not (moved and self.last[0] == "step"):
             self.last = ("other", None)
         elif rest:
@@ -158,6 +176,13 @@ class Function:
             out.append(clauses[n])
             self.last = ("other", None)
         return ".".join(out + rest)
+
+    def in_arm(self, arms, rest):
+        """The field of an arm that a path begins with, and what is left of the path."""
+        for arm, field, path in sorted(arms, key=lambda it: -len(it[2])):
+            if rest[: len(path)] == path:
+                return [arm, field], rest[len(path):]
+        return None, rest
 
     def of(self, called):
         """The names of the callee's ensures."""
@@ -180,6 +205,8 @@ class Function:
         def bind(m):
             converted = self.term(m.group(2))
             self.alias[m.group(1)] = self.last
+            if self.last[0] == "arm":
+                return "\0"
             return f"let {m.group(1)} = {converted} in"
 
         pattern = re.compile(r"let (%s) = (%s(?:\.[\w'-]+)*) in|(?<![\w'.·-])(%s(?:\.[\w'-]+)+)" % (NAME, NAME, NAME))
@@ -190,6 +217,7 @@ class Function:
             return self.term(m.group(3))
 
         text = pattern.sub(one, text)
+        text = re.sub(r"\n *\0(?=\n)| ?\0", "", text)
         for old, new in self.names["args"]:
             old, new = old.replace(" ", ""), new.replace(" ", "")
             text = re.sub(re.escape(old) + r"(?![\w'-])", new, text)
@@ -258,7 +286,7 @@ def convert(crate, path, fn, clauses):
             for a, to in zip(args, places):
                 if a != "_":
                     taken[a] = to
-            rhs = re.sub(r"(?<![\w'.₀₁₂-])%s[₀-₉]*(?![\w'₀-])" % NAME, lambda m: taken.get(m.group(0), m.group(0)), rhs)
+            rhs = re.sub(r"(?<![\w'.₀₁₂-])%s[₀-₉]*(?![\w'₀-])(?! = )" % NAME, lambda m: taken.get(m.group(0), m.group(0)), rhs)
             unf = it["unfolding"]
             invariants.append((it["comment"], f"abbrev pub {kind}-{new} : goal.{kind}-{new}", unf, f"{kind}-{new} l ={rhs}"))
         elif it["goal"]:

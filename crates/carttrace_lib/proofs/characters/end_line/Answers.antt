@@ -13,7 +13,7 @@ returns-in-First c =
     let a = c.args in
     let m = buffers a.memory.now a.tallies.now in
     c.begin.ensures ∙ (λ i. told (begun (c.first_in.ensures i) a.session m) a.out.now)
-    ∙ ap (λ (g : Stage). told (by_stage g (begun (first_in a.session.line) a.session m) (continued a.session m) (heard [] a.session m)) a.out.now) (sym c.enum_told-1.is.1)
+    ∙ ap (λ (g : Stage). told (by_stage g (begun (first_in a.session.line) a.session m) (continued a.session m) (heard [] a.session m)) a.out.now) (sym c.in-First.is)
 
 pub returns-in-Playing : goal.returns-in-Playing
 unfolding line_ended
@@ -21,7 +21,7 @@ returns-in-Playing c =
     let a = c.args in
     let m = buffers a.memory.now a.tallies.now in
     c.go_on.ensures
-    ∙ ap (λ (g : Stage). told (by_stage g (begun (first_in a.session.line) a.session m) (continued a.session m) (heard [] a.session m)) a.out.now) (sym c.enum_told-in-Playing-1.is.1)
+    ∙ ap (λ (g : Stage). told (by_stage g (begun (first_in a.session.line) a.session m) (continued a.session m) (heard [] a.session m)) a.out.now) (sym c.in-Playing.is)
 
 pub returns-in-Over : goal.returns-in-Over
 unfolding line_ended into
@@ -29,4 +29,4 @@ returns-in-Over c =
     let a = c.args in
     let m = buffers a.memory.now a.tallies.now in
     tells (heard [] a.session m) a.out.now c.Told-with.ensures refl refl refl refl
-    ∙ ap (λ (g : Stage). told (by_stage g (begun (first_in a.session.line) a.session m) (continued a.session m) (heard [] a.session m)) a.out.now) (sym c.enum_told-in-Over-1.is.1)
+    ∙ ap (λ (g : Stage). told (by_stage g (begun (first_in a.session.line) a.session m) (continued a.session m) (heard [] a.session m)) a.out.now) (sym c.in-Over.is)

@@ -28,8 +28,8 @@ unfolding play
 returns-in-SaveWrite c =
     let a = c.args in
     let s = tallied a.cart a.memory.now a.tallies.now in
-    shows status_line (λ r. r.cart) a.out.now c.save_write.ensures c.show_status.ensures (write-line c.frame-in-SaveWrite-1.is.0.0 c.frame-in-SaveWrite-1.is.0.1.0 s)
-    ∙ ap (λ (f : Frame). shown (play f s) a.out.now) (sym c.frame-in-SaveWrite-1.is.1)
+    shows status_line (λ r. r.cart) a.out.now c.save_write.ensures c.show_status.ensures (write-line c.in-SaveWrite.address c.in-SaveWrite.value s)
+    ∙ ap (λ (f : Frame). shown (play f s) a.out.now) (sym c.in-SaveWrite.is)
 
 pub returns-in-EepromRead : goal.returns-in-EepromRead
 unfolding play
@@ -46,8 +46,8 @@ unfolding play
 returns-in-EepromWrite c =
     let a = c.args in
     let s = tallied a.cart a.memory.now a.tallies.now in
-    shows status_line (λ r. r.cart) a.out.now c.eeprom_write.ensures c.show_status-in-EepromWrite.ensures (bit-in-line c.frame-in-EepromWrite-1.is.0.0 s)
-    ∙ ap (λ (f : Frame). shown (play f s) a.out.now) (sym c.frame-in-EepromWrite-1.is.1)
+    shows status_line (λ r. r.cart) a.out.now c.eeprom_write.ensures c.show_status-in-EepromWrite.ensures (bit-in-line c.in-EepromWrite.value s)
+    ∙ ap (λ (f : Frame). shown (play f s) a.out.now) (sym c.in-EepromWrite.is)
 
 pub returns-in-BeginDma : goal.returns-in-BeginDma
 unfolding play
@@ -56,8 +56,8 @@ returns-in-BeginDma c =
     let m = a.memory.now in
     let ts = a.tallies.now in
     let s = tallied a.cart m ts in
-    shows status_line (λ r. r.cart) a.out.now (beside replied (eeprom_begin_dma c.frame-in-BeginDma-1.is.0.0) a.cart m ts (λ o. refl) refl (c.eeprom_begin_dma.ensures m)) c.show_status-in-BeginDma.ensures (dma-line c.frame-in-BeginDma-1.is.0.0 s)
-    ∙ ap (λ (f : Frame). shown (play f s) a.out.now) (sym c.frame-in-BeginDma-1.is.1)
+    shows status_line (λ r. r.cart) a.out.now (beside replied (eeprom_begin_dma c.in-BeginDma.words) a.cart m ts (λ o. refl) refl (c.eeprom_begin_dma.ensures m)) c.show_status-in-BeginDma.ensures (dma-line c.in-BeginDma.words s)
+    ∙ ap (λ (f : Frame). shown (play f s) a.out.now) (sym c.in-BeginDma.is)
 
 pub returns-in-TakeFlag : goal.returns-in-TakeFlag
 unfolding play
@@ -67,7 +67,7 @@ returns-in-TakeFlag c =
     let ts = a.tallies.now in
     let s = tallied a.cart m ts in
     shows value_line (λ r. r.cart) a.out.now (beside flag_replied take_save_dirty a.cart m ts (λ o. refl) refl (c.take_save_dirty.ensures m)) c.show_value-in-TakeFlag.ensures (refl)
-    ∙ ap (λ (f : Frame). shown (play f s) a.out.now) (sym c.enum_told-in-TakeFlag-1.is.1)
+    ∙ ap (λ (f : Frame). shown (play f s) a.out.now) (sym c.in-TakeFlag.is)
 
 pub returns-in-ChipState : goal.returns-in-ChipState
 unfolding play
@@ -86,7 +86,7 @@ returns-in-ChipState c =
     shows state_line (λ r. a.cart) a.out.now b (λ i. (k i, (p i).1)) (record-line s)
     ∙ (λ i. (played_with (e i).1.cart (length text), o.next.memory, o.next.tallies, into text a.out.now))
     ∙ (λ i. (played_with (q i).next.cart (length text), o.next.memory, o.next.tallies, into text a.out.now))
-    ∙ ap (λ (f : Frame). shown (play f s) a.out.now) (sym c.enum_told-in-ChipState-1.is.1)
+    ∙ ap (λ (f : Frame). shown (play f s) a.out.now) (sym c.in-ChipState.is)
 
 pub returns-in-Bad : goal.returns-in-Bad
 unfolding play
@@ -96,4 +96,4 @@ returns-in-Bad c =
     let p = c.print_status.ensures in
     let k = c.played_with-in-Bad.ensures ∙ (λ i. played_with a.cart (p i).0) in
     (λ i. (k i, a.memory.now, a.tallies.now, (p i).1))
-    ∙ ap (λ (f : Frame). shown (play f s) a.out.now) (sym c.enum_told-in-Bad-1.is.1)
+    ∙ ap (λ (f : Frame). shown (play f s) a.out.now) (sym c.in-Bad.is)

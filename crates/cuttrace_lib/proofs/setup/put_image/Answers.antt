@@ -6,7 +6,7 @@ use Rattle.cuttrace_lib.proofs.setup.put_image.Goals as goal
 
 pub returns-in-None : goal.returns-in-None
 unfolding mark into
-returns-in-None c = marked c.args.image.now _ _ c.enum_told-1.is.1 c.requires c.fill.ensures refl
+returns-in-None c = marked c.args.image.now _ _ c.in-None.is c.requires c.fill.ensures refl
 
 pub returns-in-Sram : goal.returns-in-Sram
 unfolding mark

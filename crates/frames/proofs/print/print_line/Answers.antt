@@ -48,4 +48,4 @@ pub returns : goal.returns
 returns c =
     let b = c.loop-i in
     let a = c.args in
-    (omega (arith, c.loop-i-test, b.invariant, length-line a.status a.bytes.now), rw b.invariant.4 (put-end a.status a.bytes.now _ b.i b.end (omega (arith, c.loop-i-test, b.invariant)) b.invariant.1 (omega (arith, c.loop-i-test, b.invariant))) ∙ line-once a.status a.bytes.now a.out.now _ (omega (arith, c.requires)) c.put_digits.ensures.out_after)
+    record { value = omega (arith, c.loop-i-test, b.invariant, length-line a.status a.bytes.now); out_after = rw b.invariant.4 (put-end a.status a.bytes.now _ b.i b.end (omega (arith, c.loop-i-test, b.invariant)) b.invariant.1 (omega (arith, c.loop-i-test, b.invariant))) ∙ line-once a.status a.bytes.now a.out.now _ (omega (arith, c.requires)) c.put_digits.ensures.out_after }
