@@ -110,6 +110,13 @@ class Function:
                 return ".".join(["c"] + to + left)
         if moved:
             here = self.place.get(at)
+            if not (here and here[1] == norm(rest[0])):
+                # the older tree had other places: the nearest one on the way to the goal that has this step
+                way = self.at
+                while way in self.place and self.place[way][1] != norm(rest[0]):
+                    way = self.place[way][0]
+                if way in self.place:
+                    at, here = way, self.place[way]
             arms = [(arm, field, [step] + [norm(p) for p in path]) for arm, field, step, path in self.arms.get(at, [])]
             to, left = self.in_arm(arms, [norm(rest[0])] + rest[1:])
             longer = [(arm, field, path[len(rest):]) for arm, field, path in arms if path[: len(rest)] == [norm(rest[0])] + rest[1:] and len(path) > len(rest)]

@@ -28,7 +28,7 @@ erase_sector-requires c =
 pub load-requires : goal.load-requires
 load-requires c =
     let s = c in
-    (s.requires.tallied, fits-case s.args.store Chip (length s.args.memory.now) c.enum_told-in-Chip-1.given.1 s.requires.fits)
+    (s.requires.tallied, fits-case s.args.store Chip (length s.args.memory.now) c.in-Chip.is s.requires.fits)
 
 pub load-requires-in-File : goal.load-requires-in-File
 load-requires-in-File c =
@@ -65,7 +65,7 @@ returns-in-Chip c =
     let a = c.args in
     let m = a.memory.now in
     let ts = a.tallies.now in
-    stored-case a.store Chip a.file.now m ts c.enum_told-in-Chip-1.given.1
+    stored-case a.store Chip a.file.now m ts c.in-Chip.is
     (c.load.ensures ∙ ap (λ (l : List ℕ). with_count m l ts) (filled_none (length m)))
 
 pub returns-in-File : goal.returns-in-File

@@ -20,8 +20,8 @@ returns-in-SaveRead c =
     let m = a.memory.now in
     let ts = a.tallies.now in
     let s = tallied a.cart m ts in
-    shows value_line (λ r. r.cart) a.out.now (beside replied (save_read c.frame-1.given.0.0) a.cart m ts (λ o. refl) refl c.save_read.ensures) c.show_value.ensures (read-line c.frame-1.given.0.0 s)
-    ∙ ap (λ (f : Frame). shown (play f s) a.out.now) (sym c.frame-1.given.1)
+    shows value_line (λ r. r.cart) a.out.now (beside replied (save_read c.in-SaveRead.address) a.cart m ts (λ o. refl) refl c.save_read.ensures) c.show_value.ensures (read-line c.in-SaveRead.address s)
+    ∙ ap (λ (f : Frame). shown (play f s) a.out.now) (sym c.in-SaveRead.is)
 
 pub returns-in-SaveWrite : goal.returns-in-SaveWrite
 unfolding play
@@ -39,7 +39,7 @@ returns-in-EepromRead c =
     let ts = a.tallies.now in
     let s = tallied a.cart m ts in
     shows value_line (λ r. r.cart) a.out.now (beside replied eeprom_read a.cart m ts (λ o. refl) refl c.eeprom_read.ensures) c.show_value-in-EepromRead.ensures (bit-out-line s)
-    ∙ ap (λ (f : Frame). shown (play f s) a.out.now) (sym c.enum_told-1.given.1)
+    ∙ ap (λ (f : Frame). shown (play f s) a.out.now) (sym c.in-EepromRead.is)
 
 pub returns-in-EepromWrite : goal.returns-in-EepromWrite
 unfolding play

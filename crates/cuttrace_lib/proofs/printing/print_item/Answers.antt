@@ -12,7 +12,7 @@ pub returns-in-Bad : goal.returns-in-Bad
 returns-in-Bad c =
     let a = c.args in
     let e = c.print_line.ensures in
-    shows a.out.now (item-bad a.answer.now c.enum_told-1.given.1) e.value e.out_after
+    shows a.out.now (item-bad a.answer.now c.in-Bad.is) e.value e.out_after
 
 pub returns-in-ChipState : goal.returns-in-ChipState
 returns-in-ChipState c =

@@ -31,6 +31,6 @@ pub returns-in-NoKind : goal.returns-in-NoKind
 unfolding play_from
 returns-in-NoKind c =
     let a = c.args in
-    let e = trace-first a.text.now a.memory.now a.scratch.now a.answers.now c.line_length-end.result c.after_Line.result _ c.if-text-eq0.false c.line_length-end.ensures.0 c.after_Line.ensures.1 (sym c.enum_told-1.given.1 ∙ c.first_kind.ensures) in
+    let e = trace-first a.text.now a.memory.now a.scratch.now a.answers.now c.line_length-end.result c.after_Line.result _ c.if-text-eq0.false c.line_length-end.ensures.0 c.after_Line.ensures.1 (sym c.in-NoKind.is ∙ c.first_kind.ensures) in
     let s = shows a.out.now e c.print_line-in-NoKind.ensures.value c.print_line-in-NoKind.ensures.out_after in
     (s, shows-fits (cuttrace a.text.now a.memory.now a.scratch.now a.answers.now) _ a.out.now s c.out-in-NoKind-1.given)

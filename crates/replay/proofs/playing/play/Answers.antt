@@ -15,13 +15,13 @@ use borrow.Author.Rules.{rules}
 use Rattle.replay.proofs.playing.play.Goals as goal
 
 pub show_value-requires : goal.show_value-requires
-show_value-requires c = c.requires.out_len ∙ ap item_room c.item-1.given.1
+show_value-requires c = c.requires.out_len ∙ ap item_room c.in-SaveRead.is
 
 pub show_status-requires : goal.show_status-requires
 show_status-requires c = c.requires.out_len ∙ ap item_room c.in-SaveWrite.is
 
 pub show_value-requires-in-EepromRead : goal.show_value-requires-in-EepromRead
-show_value-requires-in-EepromRead c = c.requires.out_len ∙ ap item_room c.enum_told-1.given.1
+show_value-requires-in-EepromRead c = c.requires.out_len ∙ ap item_room c.in-EepromRead.is
 
 pub show_status-requires-in-EepromWrite : goal.show_status-requires-in-EepromWrite
 show_status-requires-in-EepromWrite c = c.requires.out_len ∙ ap item_room c.in-EepromWrite.is
@@ -45,7 +45,7 @@ pub show_status-requires-in-LoadSave : goal.show_status-requires-in-LoadSave
 show_status-requires-in-LoadSave c = c.requires.out_len ∙ ap item_room c.in-LoadSave.is
 
 pub put_file-requires : goal.put_file-requires
-put_file-requires c = omega (arith, c.requires.out_len, ap item_room c.enum_told-in-SaveData-1.given.1)
+put_file-requires c = omega (arith, c.requires.out_len, ap item_room c.in-SaveData.is)
 
 pub returns-in-SaveRead : goal.returns-in-SaveRead
 unfolding play
@@ -53,9 +53,9 @@ returns-in-SaveRead c = let a = c.args in
     let ts = a.tallies.now in
     let u = state a.cart a.memory.now in
     let s = tallied a.cart a.memory.now ts in
-    shows-value (step (save_read c.item-1.given.0.0) [] u) ts c.save_read.ensures c.show_value.ensures
-    ∙ ap (λ (o : Outcome). left (value_answer o)) (sym (stretches.apart ts (save_read c.item-1.given.0.0) [] u refl))
-    ∙ ap (λ (i : Item). left (play (cut_at a.image.now a.part) i a.list.now s)) (sym c.item-1.given.1)
+    shows-value (step (save_read c.in-SaveRead.address) [] u) ts c.save_read.ensures c.show_value.ensures
+    ∙ ap (λ (o : Outcome). left (value_answer o)) (sym (stretches.apart ts (save_read c.in-SaveRead.address) [] u refl))
+    ∙ ap (λ (i : Item). left (play (cut_at a.image.now a.part) i a.list.now s)) (sym c.in-SaveRead.is)
 
 pub returns-in-SaveWrite : goal.returns-in-SaveWrite
 unfolding play
@@ -74,7 +74,7 @@ returns-in-EepromRead c = let a = c.args in
     let s = tallied a.cart a.memory.now ts in
     shows-value (step eeprom_read [] u) ts c.eeprom_read.ensures c.show_value-in-EepromRead.ensures
     ∙ ap (λ (o : Outcome). left (value_answer o)) (sym (stretches.apart ts eeprom_read [] u refl))
-    ∙ ap (λ (i : Item). left (play (cut_at a.image.now a.part) i a.list.now s)) (sym c.enum_told-1.given.1)
+    ∙ ap (λ (i : Item). left (play (cut_at a.image.now a.part) i a.list.now s)) (sym c.in-EepromRead.is)
 
 pub returns-in-EepromWrite : goal.returns-in-EepromWrite
 unfolding play
@@ -133,8 +133,8 @@ returns-in-SaveData c = let a = c.args in
     let s = tallied a.cart a.memory.now ts in
     (λ i. (s, c.put_file.ensures.out_after i))
     ∙ (λ i. (sym (export-next (replicate (length a.out.now - 5) 0) s) i, (file_answer (sym (stretches.apart ts save_data (replicate (length a.out.now - 5) 0) u refl) i)).bytes))
-    ∙ ap (λ (n : ℕ). left (file_answer (step save_data (replicate n 0) s))) (file-room a.item _ (length a.out.now) c.enum_told-in-SaveData-1.given.1 c.requires.out_len)
-    ∙ ap (λ (i : Item). left (play (cut_at a.image.now a.part) i a.list.now s)) (sym c.enum_told-in-SaveData-1.given.1)
+    ∙ ap (λ (n : ℕ). left (file_answer (step save_data (replicate n 0) s))) (file-room a.item _ (length a.out.now) c.in-SaveData.is c.requires.out_len)
+    ∙ ap (λ (i : Item). left (play (cut_at a.image.now a.part) i a.list.now s)) (sym c.in-SaveData.is)
 
 pub returns-in-Cut : goal.returns-in-Cut
 unfolding play
