@@ -10,12 +10,12 @@ use Rattle.memory.proofs.apply.Goals as goal
 pub put_byte-requires : goal.put_byte-requires
 put_byte-requires c =
     let s = c in
-    (s.requires.tallied, fits-case s.args.store (Byte c.in-Byte.place c.in-Byte.value) (length s.args.memory.now) c.in-Byte.is s.requires.fits)
+    record { tallied = s.requires.tallied; place_in_bounds = fits-case s.args.store (Byte c.in-Byte.place c.in-Byte.value) (length s.args.memory.now) c.in-Byte.is s.requires.fits }
 
 pub apply_any-requires : goal.apply_any-requires
 apply_any-requires c =
     let s = c in
-    (s.requires.tallied, fits-case s.args.store (Block c.in-Block.block c.in-Block.word) (length s.args.memory.now) c.in-Block.is s.requires.fits)
+    record { tallied = s.requires.tallied; fits = fits-case s.args.store (Block c.in-Block.block c.in-Block.word) (length s.args.memory.now) c.in-Block.is s.requires.fits }
 
 pub returns-in-Nothing : goal.returns-in-Nothing
 unfolding stored
