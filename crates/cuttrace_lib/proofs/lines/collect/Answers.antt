@@ -48,4 +48,4 @@ pub shape_of-room : goal.shape_of-room
 shape_of-room c = c.loop-i.invariant.same_ok
 
 pub returns : goal.returns
-returns c = (collect-all c.loop-i.invariant (omega (arith, c.loop-i-test)), omega (arith, c.loop-i.invariant.used_ok, c.loop-i.invariant.place_ok))
+returns c = record { room_after = collect-all c.loop-i.invariant (omega (arith, c.loop-i-test)); result_in_bounds = omega (arith, c.loop-i.invariant.used_ok, c.loop-i.invariant.place_ok) }

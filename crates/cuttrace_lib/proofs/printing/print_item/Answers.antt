@@ -6,7 +6,7 @@ use Rattle.cuttrace_lib.proofs.printing.print_item.Goals as goal
 pub print_state-requires : goal.print_state-requires
 print_state-requires c =
     let p = c.requires in
-    (p.answer_len ∙ ap item_room c.in-ChipState.is, p.answer_in_bounds)
+    record { answer_len = p.answer_len ∙ ap item_room c.in-ChipState.is; answer_in_bounds = p.answer_in_bounds }
 
 pub returns-in-Bad : goal.returns-in-Bad
 returns-in-Bad c =

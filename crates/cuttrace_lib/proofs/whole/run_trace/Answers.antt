@@ -8,7 +8,7 @@ use Rattle.cuttrace_lib.proofs.Traces.{trace-none, trace-first, too_long, not-lo
 use Rattle.cuttrace_lib.proofs.whole.run_trace.Goals as goal
 
 pub returns-then-text-eq0 : goal.returns-then-text-eq0
-returns-then-text-eq0 c = (shows-none c.args.out.now (trace-none c.args.text.now c.args.memory.now c.args.scratch.now c.args.answers.now c.if-text-eq0.true), omega arith)
+returns-then-text-eq0 c = record { shows = shows-none c.args.out.now (trace-none c.args.text.now c.args.memory.now c.args.scratch.now c.args.answers.now c.if-text-eq0.true); upper_bound = omega arith }
 
 pub slice_bounds-first_kind-end : goal.slice_bounds-first_kind-end
 slice_bounds-first_kind-end c = sym (length-take-le c.line_length-end.result c.args.text.now c.line_length-end.ensures.1)
