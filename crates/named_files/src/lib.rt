@@ -6,10 +6,9 @@ ghost use Rattle.std.specs.Prelude.{◌≡◌, length, IfOk, IfSome};
 ghost use Rattle.named_files.specs.Counts.{IsPrefixLen};
 
 use std::env::FillError;
-use std::fs;
-use std::io;
 use std::io::Read;
 use std::rt::{Env, Files};
+use std::{fs, io};
 
 // 4,096 zeros: room for any path.
 pub fn buffer() -> [u8; 4096]

@@ -143,12 +143,7 @@ fn tallies_held(
 }
 
 // The state after the call of a frame, past the 18 bytes.
-fn state_held(
-    rt: &impl Print,
-    score: Score,
-    frame: &[u8],
-    cart: Cartridge,
-) -> io::Result<Score> {
+fn state_held(rt: &impl Print, score: Score, frame: &[u8], cart: Cartridge) -> io::Result<Score> {
     let mut expected = rooms::line_room();
     let mut told = rooms::line_room();
     let n = states::by_record(cart, &mut expected);

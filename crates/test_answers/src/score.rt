@@ -58,7 +58,10 @@ fn print_frame(rt: &impl Print, number: u8, count: u64) -> io::Result<()> {
         return Ok(());
     }
     print(rt, b"frame ")?;
-    let digits = [hex_text::character(number / 16), hex_text::character(number % 16)];
+    let digits = [
+        hex_text::character(number / 16),
+        hex_text::character(number % 16),
+    ];
     print(rt, &digits)?;
     print(rt, b": ")?;
     rt.print(count)?;

@@ -1,6 +1,7 @@
 // Vectors of the image's side, each with its answer: what a reader holds against a book or another program.
 
 #![tactic(auto)]
+
 mod crcs;
 mod orders;
 mod pieces;

@@ -73,7 +73,14 @@ pub fn orders(rt: &impl Print) -> io::Result<()> {
         b"FLASH1M_V",
         b"EEPROM_V",
     )?;
-    orders_of_4(rt, b"-", b"FLASH_V", b"FLASH512_V", b"FLASH1M_V", b"EEPROM_V")?;
+    orders_of_4(
+        rt,
+        b"-",
+        b"FLASH_V",
+        b"FLASH512_V",
+        b"FLASH1M_V",
+        b"EEPROM_V",
+    )?;
     orders_of_3(rt, b"-", b"-", b"FLASH512_V", b"FLASH1M_V", b"EEPROM_V")?;
     orders_of_2(rt, b"-", b"-", b"-", b"FLASH1M_V", b"EEPROM_V")
 }

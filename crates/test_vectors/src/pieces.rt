@@ -58,7 +58,13 @@ fn print_fed(rt: &impl Print, fed: Fed, length: usize) -> io::Result<()> {
 }
 
 // A marker cut at a place, and the answer for an image that is cut there.
-fn print_cut(rt: &impl Print, marker: &[u8], place: usize, image: &[u8], cut: usize) -> io::Result<()>
+fn print_cut(
+    rt: &impl Print,
+    marker: &[u8],
+    place: usize,
+    image: &[u8],
+    cut: usize,
+) -> io::Result<()>
     requires { (place ≤ length marker.now) × (cut ≤ length image.now) }
 {
     print(rt, b", ")?;

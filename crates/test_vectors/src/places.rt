@@ -63,7 +63,10 @@ fn print_count(rt: &impl Print, place: usize) -> io::Result<()>
 
 // The reading ends just behind the marker.
 fn sram_counts(rt: &impl Print) -> io::Result<()> {
-    print(rt, b"SRAM_V at every place of 192 bytes: single reading after")?;
+    print(
+        rt,
+        b"SRAM_V at every place of 192 bytes: single reading after",
+    )?;
     let mut place: usize = 0;
     while place < 187 {
         print_count(rt, place)?;
