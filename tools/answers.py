@@ -12,6 +12,7 @@ import re
 import sys
 
 NAME = r"[A-Za-zα-ωΑ-Ω_][\w'₀-₉-]*"
+LENT = {}
 TRIVIAL = re.compile(r"^\(?(search rules|omega arith|refl)\)?$")
 
 
@@ -48,6 +49,7 @@ def contracts(crates):
                 head = m.group(2)
                 req = re.findall(r"\brequires\*? ?(\w*) ?\{", head)
                 ens = re.findall(r"\bensures\*? ?(\w*) ?\{", head)
+                LENT[crate, m.group(1)] = re.findall(r"(\w+): &mut ", head.split("requires")[0].split("ensures")[0])
                 found.setdefault((crate, m.group(1)), []).append((module, req, ens))
     return found
 
@@ -64,15 +66,10 @@ class Function:
         self.goals = {norm(o): n for o, n in names["needs"]}
         # where each goal is asked, each place's parent, step and arm
         self.asked = {n: at[0] for (o, n), at in zip(names["needs"], names["asked_at"])}
-        self.place = {}
+        self.place, self.arms = {}, {}
         for (place, parent, (old, new), called, _), arm in zip(names["places"], names["arms"]):
-            keys = {}
-            for field, step, olds in (arm[2] if arm else []):
-                for it in olds:
-                    keys[norm(it)] = field
-                if not olds:
-                    keys["rest"] = field + ".rest"
-            self.place[place] = (parent, norm(old), new, called, keys)
+            self.place[place] = (parent, norm(old), new, called)
+            self.arms[place] = [(arm[0], field, norm(step), path) for field, step, path in arm[2]] if arm else []
         self.changed = [c for c in names["changed"]]
         self.at = None
         self.order = [n for o, n in names["needs"]]
@@ -89,88 +86,134 @@ class Function:
                 if it[0].rstrip(":") == mod:
                     self.own = it
         self.alias = {}
-
-    def clause(self, called, which, n):
-        if called is None:
-            names = self.own[which]
-        else:
-            parts = called.split("::")
-            found = self.clauses.get((parts[0], parts[-1]))
-            if not found:
-                found = self.clauses.get((self.crate, parts[-1]))
-            if not found:
-                return str(n)
-            names = found[0][which]
-        if len(names) > n and names[n]:
-            return names[n]
-        return str(n)
+        self.lent = LENT
 
     def term(self, token):
+        """One path into what is known, `c.before.before.loop.i`, with today's names; what it stands for is left in self.last."""
         parts = token.split(".")
-        root, rest = parts[0], [p for p in parts[1:] if p != "before"]
-        out, called, in_requires, in_ensures = [root], None, False, None
+        root, rest = parts[0], parts[1:]
         kind = self.alias.get(root)
         at = self.at if root == "c" else kind[1] if kind and kind[0] == "place" else None
-        for p in parts[1:]:
-            if p == "before" and at:
-                at = self.place[at][0]
-            elif p != "before":
-                break
-        here = self.place.get(at) if at else None
-        keys = {}
-        if here and rest and norm(rest[0]) == here[1] and here[1]:
-            keys = here[4]
-            called = here[3]
-            if len(rest) > 1 and rest[1] == "given" and norm(rest[0]) in self.typed:
-                pass
-            else:
-                out.append(here[2])
-                rest = rest[1:]
-                if rest and norm(rest[0]) in keys:
-                    out.append(keys[norm(rest[0])])
-                    rest = rest[1:]
-        if kind and kind[0] == "requires":
-            in_requires = True
-        if kind and kind[0] == "ensures":
-            in_ensures = kind[1]
-        if kind and kind[0] == "step":
-            called = kind[1]
-        i = 0
-        while i < len(rest):
-            p = rest[i]
-            if norm(p) in self.typed and i + 1 < len(rest) and rest[i + 1] == "given":
-                out += ["type_inv", self.typed[norm(p)]]
-                i += 2
-                continue
-            if (in_requires or in_ensures) and p.isdigit():
-                out.append(self.clause(None if in_requires else in_ensures, 1 if in_requires else 2, int(p)))
-                in_requires, in_ensures = False, None
-            elif p == "requires":
-                in_requires = True
-                out.append(p)
-            elif p == "ensures":
-                in_ensures = called
-                out.append(p)
-            elif norm(p) in self.steps and not (len(out) > 1 and out[-1] in ("args", "now", "new", "old")):
-                called = self.callee.get(norm(p))
-                out.append(self.steps[norm(p)])
-            else:
-                out.append(p)
-            i += 1
-        if at and not rest and len(out) == 1:
-            self.last = ("place", at)
+        moved = root == "c" or bool(kind and kind[0] == "place")
+        while moved and rest and rest[0] == "before":
+            at = self.place[at][0] if at in self.place else None
+            rest = rest[1:]
+        out = [root]
+        self.last = ("place", at) if moved else ("other", None)
+        if not rest:
             return root
-        self.last = ("requires", None) if in_requires else ("ensures", in_ensures) if in_ensures else ("step", called)
-        return ".".join(out)
+        called = None
+        if kind and kind[0] == "arm":
+            to, left = self.in_arm(kind[1], rest)
+            if to:
+                self.last = ("other", None)
+                return ".".join(["c"] + to + left)
+        if moved:
+            here = self.place.get(at)
+            if not (here and here[1] == norm(rest[0])):
+                # the older tree had other places: the nearest one on the way to the goal that has this step
+                way = self.at
+                while way in self.place and self.place[way][1] != norm(rest[0]):
+                    way = self.place[way][0]
+                if way in self.place:
+                    at, here = way, self.place[way]
+            arms = [(arm, field, [step] + [norm(p) for p in path]) for arm, field, step, path in self.arms.get(at, [])]
+            to, left = self.in_arm(arms, [norm(rest[0])] + rest[1:])
+            longer = [(arm, field, path[len(rest):]) for arm, field, path in arms if path[: len(rest)] == [norm(rest[0])] + rest[1:] and len(path) > len(rest)]
+            if longer:
+                self.last = ("arm", longer)
+                return "c"
+            if to:
+                self.last = ("other", None)
+                return ".".join([root] + to + left)
+            if len(rest) > 1 and rest[1] == "given" and norm(rest[0]) in self.typed:
+                var = self.typed[norm(rest[0])]
+                if var in self.live:
+                    out += ["type_inv", var]
+                else:
+                    out += [self.steps.get(norm(rest[0]), rest[0]), "given"]
+                rest = rest[2:]
+                self.last = ("other", None)
+                return ".".join(out + rest)
+            first = norm(rest[0])
+            if here and here[1] and first == here[1]:
+                out.append(here[2])
+                called = here[3]
+                rest = rest[1:]
+                self.last = ("step", called)
+            elif first not in ("args", "requires", "ranges", "lifetimes", "type_inv", "well_formed") and first in self.steps:
+                out.append(self.steps[first])
+                called = self.callee.get(first)
+                rest = rest[1:]
+                self.last = ("step", called)
+        elif kind and kind[0] == "step":
+            called = kind[1]
+        clauses = None
+        if kind and kind[0] in ("requires", "ensures"):
+            clauses = kind[1]
+        elif rest and rest[0] == "requires" and moved:
+            clauses = self.own[1]
+            out.append("requires")
+            rest = rest[1:]
+            self.last = ("requires", clauses)
+        elif rest and rest[0] == "ensures":
+            clauses = self.of(called)
+            out.append("ensures")
+            rest = rest[1:]
+            self.last = ("ensures", clauses)
+        elif rest and rest[0] == "new" and called and len(rest) > 1 and rest[1] in ("0", "1"):
+            lent = self.lent.get(tuple(called.split("::")[i] for i in (0, -1)), [])
+            rest, n = rest[1:], 0
+            while rest and rest[0] == "1" and n < len(lent) - 1:
+                n, rest = n + 1, rest[1:]
+            if rest and rest[0] == "0":
+                rest = rest[1:]
+            out += ["new", lent[n] if lent else "0"]
+            self.last = ("other", None)
+        elif rest and not (moved and self.last[0] == "step"):
+            self.last = ("other", None)
+        elif rest:
+            self.last = ("other", None)
+        if clauses and len(clauses) > 1 and rest and rest[0] in ("0", "1"):
+            n = 0
+            while rest and rest[0] == "1" and n < len(clauses) - 1:
+                n, rest = n + 1, rest[1:]
+            if rest and rest[0] == "0" and n < len(clauses) - 1:
+                rest = rest[1:]
+            out.append(clauses[n])
+            self.last = ("other", None)
+        return ".".join(out + rest)
+
+    def in_arm(self, arms, rest):
+        """The field of an arm that a path begins with, and what is left of the path."""
+        for arm, field, path in sorted(arms, key=lambda it: -len(it[2])):
+            if rest[: len(path)] == path:
+                return [arm, field], rest[len(path):]
+        return None, rest
+
+    def of(self, called):
+        """The names of the callee's ensures."""
+        if called is None:
+            return None
+        parts = called.split("::")
+        found = self.clauses.get((parts[0], parts[-1])) or self.clauses.get((self.crate, parts[-1])) or []
+        for module, req, ens in found:
+            if module == "::".join(parts[1:-1] + [""]):
+                return ens
+        return found[0][2] if found else None
 
     def body(self, text, goal=None):
         self.alias = {}
         self.at = self.asked.get(goal)
+        places = [p[0] for p in self.names["places"]]
+        self.live = [v for v, _ in self.names["typed"][places.index(self.at)]] if self.at in places else []
         text = text.replace(" κs", "")
 
         def bind(m):
             converted = self.term(m.group(2))
             self.alias[m.group(1)] = self.last
+            if self.last[0] == "arm":
+                return "\0"
             return f"let {m.group(1)} = {converted} in"
 
         pattern = re.compile(r"let (%s) = (%s(?:\.[\w'-]+)*) in|(?<![\w'.·-])(%s(?:\.[\w'-]+)+)" % (NAME, NAME, NAME))
@@ -180,7 +223,12 @@ class Function:
                 return bind(m)
             return self.term(m.group(3))
 
-        return pattern.sub(one, text)
+        text = pattern.sub(one, text)
+        text = re.sub(r"\n *\0(?=\n)| ?\0", "", text)
+        for old, new in self.names["args"]:
+            old, new = old.replace(" ", ""), new.replace(" ", "")
+            text = re.sub(re.escape(old) + r"(?![\w'-])", new, text)
+        return text
 
 
 def convert(crate, path, fn, clauses):
@@ -245,7 +293,7 @@ def convert(crate, path, fn, clauses):
             for a, to in zip(args, places):
                 if a != "_":
                     taken[a] = to
-            rhs = re.sub(r"(?<![\w'.₀₁₂-])%s[₀-₉]*(?![\w'₀-])" % NAME, lambda m: taken.get(m.group(0), m.group(0)), rhs)
+            rhs = re.sub(r"(?<![\w'.₀₁₂-])%s[₀-₉]*(?![\w'₀-])(?! = )" % NAME, lambda m: taken.get(m.group(0), m.group(0)), rhs)
             unf = it["unfolding"]
             invariants.append((it["comment"], f"abbrev pub {kind}-{new} : goal.{kind}-{new}", unf, f"{kind}-{new} l ={rhs}"))
         elif it["goal"]:

@@ -21,7 +21,7 @@ use Rattle.cart.specs.Resume.{with_flag, flag_of}
 use Rattle.cart.specs.Cut.{file_left, bytes_left, cut, cuts, Turn, Shown, shown, Compared, run, uncut, carries_flag, all_carry_flag, flag_left_out, answer_seen, seen, CutRuns}
 use Rattle.cart.proofs.Sound.{Sound, record-allowed, memory-fits, opened}
 use Rattle.cart.proofs.Recoverable.{Recoverable, NoByteWrite, clash, recoverable-step, recoverable-fresh}
-use Rattle.cart.proofs.Resume.{file-left, bytes_left, cut-is}
+use Rattle.cart.proofs.Resume.{file-left, bytes_left_lem, cut-is}
 
 -- the state without its flag, and what of an outcome does not show it
 abbrev pub quiet : State → State
@@ -155,8 +155,8 @@ pub bytes_same : (flags : Bool) (s t : State) → Sound s → Sound t → state_
     → cond flags (bytes_left s) (flag_left_out (bytes_left s)) ≡ cond flags (bytes_left t) (flag_left_out (bytes_left t))
 bytes_same true s t k l e = ap bytes_left e
 bytes_same false s t k l e =
-    ap flag_left_out (bytes_left s (record-allowed s k)) ∙ sym (state-quiet s) ∙ ap (λ (z : State). flag_left_out (state_bytes z.cart.chip z.cart.dirty)) e ∙ state-quiet t
-    ∙ sym (ap flag_left_out (bytes_left t (record-allowed t l)))
+    ap flag_left_out (bytes_left_lem s (record-allowed s k)) ∙ sym (state-quiet s) ∙ ap (λ (z : State). flag_left_out (state_bytes z.cart.chip z.cart.dirty)) e ∙ state-quiet t
+    ∙ sym (ap flag_left_out (bytes_left_lem t (record-allowed t l)))
 
 pub file-same : (s t : State) → Sound s → Sound t → quiet s ≡ quiet t → file_left s ≡ file_left t
 file-same s t k l e =

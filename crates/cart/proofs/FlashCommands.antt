@@ -80,9 +80,9 @@ reads s a v e u =
     (nothing s)
 
 module _ {maker device : ℕ} where
-  write_step : (s : State) (a v : ℕ) → FlashPart s.cart.kind s.cart.part maker device → Usable s → step (save_write a v) [] s ≡ counted s (outcome [] (with_flash s (write_byte (flash_of s) a v)) [])
+  write_step_lem : (s : State) (a v : ℕ) → FlashPart s.cart.kind s.cart.part maker device → Usable s → step (save_write a v) [] s ≡ counted s (outcome [] (with_flash s (write_byte (flash_of s) a v)) [])
   unfolding questions accepted
-  write_step s a v f u =
+  write_step_lem s a v f u =
       step-accepted (save_write a v) [] s (u.valid, (memory-yes s u, (tallies-yes s u, tt))) ∙ ap (λ (t : State). counted s (outcome [] t [])) (write-part f s a v)
 
   run-writes : (ws : List Write) (s : State) → FlashPart s.cart.kind s.cart.part maker device → Usable s → calls (writes ws) s ≡ ran [] (with_flash s (written ws (flash_of s)))
@@ -90,7 +90,7 @@ module _ {maker device : ℕ} where
   run-writes [] s f u = nothing s ∙ ap (ran []) (sym (tallies-stay s u.words))
   run-writes (w ∷ ws) s f u =
       let t : State = with_flash s (write_byte (flash_of s) w.address w.value) in
-      let o = write_step s w.address w.value f u in
+      let o = write_step_lem s w.address w.value f u in
       then (save_write w.address w.value) (writes ws) s o
       (run-writes ws t f (rw o at (usable-step (save_write w.address w.value) [] s u))
       ∙ ap (ran []) (tallies-again s t.memory (with_flash s (written ws (flash_of t)))))

@@ -79,9 +79,9 @@ file-left s a b =
     ap (λ (o : Outcome). file_in o.given o.destination) (export-accepted d s a b (simp length-replicate (omega arith)))
     ∙ file-in (file_of s.cart.kind s) d s
 
-pub bytes_left : (s : State) → record_allowed s.cart ≡ true → bytes_left s ≡ state_bytes s.cart.chip s.cart.dirty
+pub bytes_left_lem : (s : State) → record_allowed s.cart ≡ true → bytes_left s ≡ state_bytes s.cart.chip s.cart.dirty
 unfolding bytes_left
-bytes_left s a = ap (λ (o : Outcome). o.given) (state-accepted s a)
+bytes_left_lem s a = ap (λ (o : Outcome). o.given) (state-accepted s a)
 
 -- the file gives the memory back, whatever the memory m was
 abbrev memory_from : List ℕ → Option (List ℕ) → List ℕ
@@ -231,7 +231,7 @@ resumed-is image part v s t r q =
     right-memory t t.cart.dirty x.chip (memory_from t.memory o) q.tallies_ok
     ∙ ap₂ (λ (i : SaveType) (l : List ℕ). tallies_of (tally_count i) l) (q.kind_is ∙ sym r.kind_is) m
     in
-    ap₂ (λ (l : List ℕ) (f : Option (List ℕ)). (restore (carried v l) (reloaded f t)).next) (bytes_left s a) (file-left s a (memory-fits s k) ∙ ap (λ (i : SaveType). file_of i s) r.kind_is)
+    ap₂ (λ (l : List ℕ) (f : Option (List ℕ)). (restore (carried v l) (reloaded f t)).next) (bytes_left_lem s a) (file-left s a (memory-fits s k) ∙ ap (λ (i : SaveType). file_of i s) r.kind_is)
     ∙ restore-next b (reloaded o t) x.allowed (own-questions v s.cart.chip s.cart.dirty (chip-allowed s.cart.chip k.flash_ok k.eeprom_ok))
     ∙ ap (restoring b) x.is
     ∙ (λ i.

@@ -22,9 +22,9 @@ module _ (s : State) (u : Usable s) (e : s.cart.kind ≡ Sram) where
   unfolding questions accepted write_save write_step stored
   write_byte a v = step-accepted (save_write a v) [] s (u.valid, (memory-yes s u, (tallies-yes s u, tt))) ∙ rw e
 
-  read_byte : (c : ℕ) → step (save_read c) [] s ≡ counted s (outcome (get_or s.memory (sram_place c) 0 ∷ []) s [])
+  read_byte_lem : (c : ℕ) → step (save_read c) [] s ≡ counted s (outcome (get_or s.memory (sram_place c) 0 ∷ []) s [])
   unfolding questions accepted read_save read_byte
-  read_byte c = step-accepted (save_read c) [] s (u.valid, (memory-yes s u, tt)) ∙ rw e
+  read_byte_lem c = step-accepted (save_read c) [] s (u.valid, (memory-yes s u, tt)) ∙ rw e
 
   length-sram : length s.memory ≡ 32768
   length-sram = u.memory_ok ∙ ap memory_size e
@@ -37,7 +37,7 @@ sram-bytes s u e =
           let w = write_byte s u e a v in
           let l : Usable t = rw w at (usable-step (save_write a v) [] s u) in
           then (save_write a v) (save_read c ∷ []) s w
-          (then (save_read c) [] t (read_byte t l e c) (nothing t)
+          (then (save_read c) [] t (read_byte_lem t l e c) (nothing t)
           ∙ ap (λ (x : ℕ). ran (x ∷ []) t) (set_at s.memory (sram_place a) v (sram_place c) (omega (arith, length-sram s u e))));
       byte_at = λ a h. omega arith;
     }

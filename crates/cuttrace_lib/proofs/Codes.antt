@@ -56,11 +56,11 @@ Unhexed line r room = unhex line ≡ cond r (some (take (length line / 2) room))
 pub read-other : (line room room' : List ℕ) (r : Bool) → r ≡ false → Unhexed line r room' → Read line Bad room
 unfolding line_item whole_item
 read-other line room room' r f e =
-    let q : unhex line ≡ none = rw (not-true r f) at e in
+    let q : unhex line ≡ none = rw f at e in
     no_item line room (rw q)
 
 digits-said : (line room : List ℕ) (r : Bool) → r ≡ true → Unhexed line r room → unhex line ≡ some (take (length line / 2) room)
-digits-said line room r f e = rw (not-false r f) at e
+digits-said line room r f e = rw f at e
 
 bytes-long : (line room : List ℕ) → length line ≤ 2 * length room → length (take (length line / 2) room) ≡ length line / 2
 bytes-long line room h = length-take-le (length line / 2) room (omega arith)

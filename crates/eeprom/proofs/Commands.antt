@@ -102,16 +102,26 @@ module _ (e : Eeprom) where
       let q : 4 ≤ opcode_of a b c = omega arith in
       two-bits k r a b c m d ∙ rw (ne_eqb (opcode_of a b c) 3 (omega (arith, q)), ne_eqb (opcode_of a b c) 2 (omega (arith, q)))
 
-  whole-write : (block y z k r a : ℕ) (m : List ℕ) (d : Bool) → a % 2 ^ 62 ≡ 0 → 0 < w_of e → w_of e ≤ 64 → block < 2 ^ w_of e → y < 2 ^ 64
-      → fed (write_block (w_of e) block y z) (at Opcode 0 k r a m d) ≡ at Opcode 0 (block % 1024) r 0 (with_part m (8 * (block % 1024)) (digits 256 8 y)) true
-  unfolding write_block fed bit_in write_bit turned stored
-  whole-write block y z k r a m d ha h0 h hb hy =
+  -- each step with `fed` as a word, so that no comparison plays the 64 bits
+  write-steps : (block y z k r a : ℕ) (m : List ℕ) (d : Bool) → a % 2 ^ 62 ≡ 0 → 0 < w_of e → w_of e ≤ 64 → block < 2 ^ w_of e → y < 2 ^ 64
+      → fed (write_block (w_of e) block y z) (at Opcode 0 k r a m d) ≡ fed (z ∷ []) (full word (block % 1024) r y m d)
+  unfolding write_block
+  write-steps block y z k r a m d ha h0 h hb hy =
       fed-append (1 ∷ 0 ∷ []) (bits (w_of e) block ++ (bits 64 y ++ (z ∷ []))) (at Opcode 0 k r a m d)
       ∙ ap (fed (bits (w_of e) block ++ (bits 64 y ++ (z ∷ [])))) (opens-write k r a m d ha)
       ∙ fed-append (bits (w_of e) block) (bits 64 y ++ (z ∷ [])) (at WriteAddress 0 k r 0 m d)
       ∙ ap (fed (bits 64 y ++ (z ∷ []))) (phase write_at block k r m d h0 h hb)
       ∙ fed-append (bits 64 y) (z ∷ []) (at WriteData 0 (block % 1024) r 0 m d)
       ∙ ap (fed (z ∷ [])) (phase word y (block % 1024) r m d (omega arith) (omega arith) hy)
+
+  write-end : (block y z r : ℕ) (m : List ℕ) (d : Bool)
+      → fed (z ∷ []) (full word (block % 1024) r y m d) ≡ at Opcode 0 (block % 1024) r 0 (with_part m (8 * (block % 1024)) (digits 256 8 y)) true
+  unfolding fed bit_in write_bit turned stored
+  write-end block y z r m d = refl
+
+  whole-write : (block y z k r a : ℕ) (m : List ℕ) (d : Bool) → a % 2 ^ 62 ≡ 0 → 0 < w_of e → w_of e ≤ 64 → block < 2 ^ w_of e → y < 2 ^ 64
+      → fed (write_block (w_of e) block y z) (at Opcode 0 k r a m d) ≡ at Opcode 0 (block % 1024) r 0 (with_part m (8 * (block % 1024)) (digits 256 8 y)) true
+  whole-write block y z k r a m d ha h0 h hb hy = write-steps block y z k r a m d ha h0 h hb hy ∙ write-end block y z r m d
 
   whole-address : (block z k r a : ℕ) (m : List ℕ) (d : Bool) → a % 2 ^ 62 ≡ 0 → 0 < w_of e → w_of e ≤ 64 → block < 2 ^ w_of e
       → fed (set_address (w_of e) block z) (at Opcode 0 k r a m d) ≡ at Reading 0 (block % 1024) 0 0 m d

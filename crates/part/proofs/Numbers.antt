@@ -44,10 +44,10 @@ part-forth n h =
 pub part-lt : (p : Part) → part_number p < 6
 part-lt p = omega (arith, leb-true (part_number p) 5 (part-le p))
 
-pub by_part : (p : Part) (a b c d e f : ℕ) → get_or (a ∷ b ∷ c ∷ d ∷ e ∷ f ∷ []) (part_number p) 0 ≡ by_part p a b c d e f
-by_part Usual a b c d e f = refl
-by_part Sst64 a b c d e f = refl
-by_part Macronix64 a b c d e f = refl
-by_part Panasonic64 a b c d e f = refl
-by_part Sanyo128 a b c d e f = refl
-by_part Macronix128 a b c d e f = refl
+pub by_part_lem : (p : Part) (a b c d e f : ℕ) → get_or (a ∷ b ∷ c ∷ d ∷ e ∷ f ∷ []) (part_number p) 0 ≡ by_part p a b c d e f
+by_part_lem Usual a b c d e f = refl
+by_part_lem Sst64 a b c d e f = refl
+by_part_lem Macronix64 a b c d e f = refl
+by_part_lem Panasonic64 a b c d e f = refl
+by_part_lem Sanyo128 a b c d e f = refl
+by_part_lem Macronix128 a b c d e f = refl

@@ -14,10 +14,10 @@ pub apply-changed-requires : goal.apply-changed-requires
 apply-changed-requires c =
     let s = c in
     let a = s.args in
-    let n = length a.memory-1.now in (
+    let n = length a.memory.now in (
       omega (arith, s.requires.memory_len, s.requires.tallies_len, whole-stretches a.cart.kind),
       subst (λ (t : ByteStep). Fits t.store n) (sym c.write_byte-t.ensures)
-          (step_fits a.cart.kind a.cart.chip-1.flash-1 n a.address a.value s.requires.memory_len),
+          (step_fits a.cart.kind a.cart.chip.flash n a.address a.value s.requires.memory_len),
     )
 
 pub returns : goal.returns

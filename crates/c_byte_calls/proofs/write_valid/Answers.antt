@@ -36,7 +36,7 @@ returns-then-tallies-memory c =
 pub apply-requires : goal.apply-requires
 apply-requires c =
     let a = c.args in
-    let n = length a.memory-1.now in
+    let n = length a.memory.now in
     let k = c.kind_in-kind.result in
     let e = c.if-memory-memory_size.false ∙ c.memory_size.ensures in (
       omega (arith, e, c.if-tallies-memory.false, whole-stretches k),

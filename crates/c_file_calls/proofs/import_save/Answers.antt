@@ -17,14 +17,14 @@ use Rattle.c_file_calls.proofs.import_save.Goals as goal
 pub returns-then-not-is_record : goal.returns-then-not-is_record
 returns-then-not-is_record c =
     let a = c.args in
-    ap (import_at a.kept.now a.changed.now) (no_record (import_save a.file.now) [] a.cart.now a.memory-1.now a.tallies-1.now (denied _ c.is_record.ensures.value c.if-not-is_record.true))
+    ap (import_at a.kept.now a.changed.now) (no_record (import_save a.file.now) [] a.cart.now a.memory.now a.tallies.now (denied _ c.is_record.ensures.value c.if-not-is_record.true))
 
 pub returns-then-memory-memory_size : goal.returns-then-memory-memory_size
 returns-then-memory-memory_size c =
     let a = c.args in
     let i = c.is_record.ensures in
     let e = c.memory_size.ensures ∙ ap memory_size c.kind_in-kind.ensures in
-    import-no a.cart.now a.memory-1.now (i.valid (granted _ i.value c.if-not-is_record.false)) (λ z. c.if-memory-memory_size.true (z ∙ sym e)) a.file.now a.tallies-1.now a.kept.now a.changed.now
+    import-no a.cart.now a.memory.now (i.valid (granted _ i.value c.if-not-is_record.false)) (λ z. c.if-memory-memory_size.true (z ∙ sym e)) a.file.now a.tallies.now a.kept.now a.changed.now
 
 pub returns-then-tallies-tally_count : goal.returns-then-tallies-tally_count
 returns-then-tallies-tally_count c =
@@ -33,7 +33,7 @@ returns-then-tallies-tally_count c =
     let k = c.kind_in-kind.ensures in
     let e = c.if-memory-memory_size.false ∙ c.memory_size.ensures ∙ ap memory_size k in
     let h = c.tally_count.ensures ∙ ap tally_count k in
-    import-16 a.cart.now a.memory-1.now (i.valid (granted _ i.value c.if-not-is_record.false)) e a.tallies-1.now (λ z. c.if-tallies-tally_count.true (z ∙ sym h)) a.file.now a.kept.now a.changed.now
+    import-16 a.cart.now a.memory.now (i.valid (granted _ i.value c.if-not-is_record.false)) e a.tallies.now (λ z. c.if-tallies-tally_count.true (z ∙ sym h)) a.file.now a.kept.now a.changed.now
 
 pub returns-then-not-takes : goal.returns-then-not-takes
 returns-then-not-takes c =
@@ -43,7 +43,7 @@ returns-then-not-takes c =
     let k = c.kind_in-kind.ensures in
     let e = c.if-memory-memory_size.false ∙ c.memory_size.ensures ∙ ap memory_size k in
     let h = c.if-tallies-tally_count.false ∙ c.tally_count.ensures ∙ ap tally_count k in
-    no-fit a.cart.now a.memory-1.now (i.valid (granted _ i.value c.if-not-is_record.false)) e a.tallies-1.now h f a.kept.now a.changed.now
+    no-fit a.cart.now a.memory.now (i.valid (granted _ i.value c.if-not-is_record.false)) e a.tallies.now h f a.kept.now a.changed.now
     (denied _ (c.takes.ensures ∙ ap (λ (s : SaveType). taken (save_fit s (length f))) k) c.if-not-takes.true)
 
 pub load_valid-requires : goal.load_valid-requires
@@ -64,7 +64,7 @@ returns c =
     let k = c.kind_in-kind.ensures in
     let e = c.if-memory-memory_size.false ∙ c.memory_size.ensures ∙ ap memory_size k in
     let h = c.if-tallies-tally_count.false ∙ c.tally_count.ensures ∙ ap tally_count k in
-    import-yes a.cart.now a.memory-1.now (i.valid (granted _ i.value c.if-not-is_record.false)) e a.tallies-1.now h f _ a.kept.now a.changed.now
+    import-yes a.cart.now a.memory.now (i.valid (granted _ i.value c.if-not-is_record.false)) e a.tallies.now h f _ a.kept.now a.changed.now
     (granted _ (c.takes.ensures ∙ ap (λ (s : SaveType). taken (save_fit s (length f))) k) c.if-not-takes.false)
     (c.kept_part-part.ensures ∙ ap (λ (s : SaveType). kept_part s f) k)
     c.load_valid.ensures

@@ -12,14 +12,14 @@ use Rattle.c_file_calls.proofs.load_save.Goals as goal
 pub returns-then-not-is_record : goal.returns-then-not-is_record
 returns-then-not-is_record c =
     let a = c.args in
-    ap (changed_at a.changed.now) (no_record (step (load_save a.file.now) []) [] a.cart.now a.memory-1.now a.tallies-1.now (denied _ c.is_record.ensures.value c.if-not-is_record.true))
+    ap (changed_at a.changed.now) (no_record (step (load_save a.file.now) []) [] a.cart.now a.memory.now a.tallies.now (denied _ c.is_record.ensures.value c.if-not-is_record.true))
 
 pub returns-then-memory-memory_size : goal.returns-then-memory-memory_size
 returns-then-memory-memory_size c =
     let a = c.args in
     let i = c.is_record.ensures in
     let e = c.memory_size.ensures ∙ ap memory_size c.kind_in-kind.ensures in
-    load-no a.cart.now a.memory-1.now (i.valid (granted _ i.value c.if-not-is_record.false)) (λ z. c.if-memory-memory_size.true (z ∙ sym e)) a.file.now a.tallies-1.now a.changed.now
+    load-no a.cart.now a.memory.now (i.valid (granted _ i.value c.if-not-is_record.false)) (λ z. c.if-memory-memory_size.true (z ∙ sym e)) a.file.now a.tallies.now a.changed.now
 
 pub returns-then-tallies-tally_count : goal.returns-then-tallies-tally_count
 returns-then-tallies-tally_count c =
@@ -28,7 +28,7 @@ returns-then-tallies-tally_count c =
     let k = c.kind_in-kind.ensures in
     let e = c.if-memory-memory_size.false ∙ c.memory_size.ensures ∙ ap memory_size k in
     let h = c.tally_count.ensures ∙ ap tally_count k in
-    load-16 a.cart.now a.memory-1.now (i.valid (granted _ i.value c.if-not-is_record.false)) e a.tallies-1.now (λ z. c.if-tallies-tally_count.true (z ∙ sym h)) a.file.now a.changed.now
+    load-16 a.cart.now a.memory.now (i.valid (granted _ i.value c.if-not-is_record.false)) e a.tallies.now (λ z. c.if-tallies-tally_count.true (z ∙ sym h)) a.file.now a.changed.now
 
 pub load_valid-requires : goal.load_valid-requires
 load_valid-requires c =
@@ -43,4 +43,4 @@ returns c =
     let k = c.kind_in-kind.ensures in
     let e = c.if-memory-memory_size.false ∙ c.memory_size.ensures ∙ ap memory_size k in
     let h = c.if-tallies-tally_count.false ∙ c.tally_count.ensures ∙ ap tally_count k in
-    c.load_valid.ensures ∙ load-yes a.cart.now a.memory-1.now (i.valid (granted _ i.value c.if-not-is_record.false)) e a.tallies-1.now h a.file.now a.changed.now
+    c.load_valid.ensures ∙ load-yes a.cart.now a.memory.now (i.valid (granted _ i.value c.if-not-is_record.false)) e a.tallies.now h a.file.now a.changed.now

@@ -18,7 +18,7 @@ use Rattle.c_file_calls.proofs.save_data.Goals as goal
 pub returns-then-not-is_record : goal.returns-then-not-is_record
 returns-then-not-is_record c =
     let a = c.args in
-    let d = a.destination-1.now in
+    let d = a.destination.now in
     ap (export_at a.length.now) (no_record (step save_data d) d a.cart.now a.memory.now [] (denied _ c.is_record.ensures.value c.if-not-is_record.true))
 
 pub returns-then-memory-memory_size : goal.returns-then-memory-memory_size
@@ -27,7 +27,7 @@ returns-then-memory-memory_size c =
     let a = q.args in
     let i = q.is_record.ensures in
     let e = c.memory_size.ensures ∙ ap memory_size c.kind_in-kind.ensures in
-    export-no a.cart.now a.memory.now (i.valid (granted _ i.value q.if-not-is_record.false)) (λ z. c.if-memory-memory_size.true (z ∙ sym e)) a.destination-1.now a.length.now
+    export-no a.cart.now a.memory.now (i.valid (granted _ i.value q.if-not-is_record.false)) (λ z. c.if-memory-memory_size.true (z ∙ sym e)) a.destination.now a.length.now
 
 pub returns-then-destination-n : goal.returns-then-destination-n
 returns-then-destination-n c =
@@ -38,7 +38,7 @@ returns-then-destination-n c =
     let i = q.is_record.ensures in
     let k = n.kind_in-kind.ensures in
     let e = n.if-memory-memory_size.false ∙ n.memory_size.ensures ∙ ap memory_size k in
-    no_room r a.memory.now (i.valid (granted _ i.value q.if-not-is_record.false)) e a.destination-1.now a.length.now _
+    no_room r a.memory.now (i.valid (granted _ i.value q.if-not-is_record.false)) e a.destination.now a.length.now _
     (c.file_length-n.ensures ∙ ap₂ file_length k (large-read r)) c.if-destination-n.true
 
 pub slice_bounds-copy_file-end : goal.slice_bounds-copy_file-end
@@ -69,7 +69,7 @@ returns c =
     let i = q.is_record.ensures in
     let k = n.kind_in-kind.ensures in
     let e = n.if-memory-memory_size.false ∙ n.memory_size.ensures ∙ ap memory_size k in
-    export-yes r a.memory.now (i.valid (granted _ i.value q.if-not-is_record.false)) e a.destination-1.now a.length.now _
+    export-yes r a.memory.now (i.valid (granted _ i.value q.if-not-is_record.false)) e a.destination.now a.length.now _
     (c.file_length-n.ensures ∙ ap₂ file_length k (large-read r))
     c.if-destination-n.false
     c.copy_file.ensures

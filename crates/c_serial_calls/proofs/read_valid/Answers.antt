@@ -38,18 +38,17 @@ pub returns-in-Nothing : goal.returns-in-Nothing
 returns-in-Nothing c =
     let s = c in
     read-nothing s.args.cart.now s.args.memory.now s.requires (c.if-memory-memory_size.false ∙ c.memory_size.ensures ∙ ap memory_size c.kind_in-kind.ensures) s.args.bit.now _ c.eeprom_in-e.result c.draw-d.result
-    c.eeprom_in-e.ensures (c.read_bit.ensures ∙ ap₂ (λ (p : Bool) (x : Eeprom). read_bit p x c.args.memory.now) (c.uses_eeprom.ensures ∙ ap uses_eeprom c.kind_in-kind.ensures) c.eeprom_in-e.ensures) c.draw-d.ensures c.enum_told-1.is.1
+    c.eeprom_in-e.ensures (c.read_bit.ensures ∙ ap₂ (λ (p : Bool) (x : Eeprom). read_bit p x c.args.memory.now) (c.uses_eeprom.ensures ∙ ap uses_eeprom c.kind_in-kind.ensures) c.eeprom_in-e.ensures) c.draw-d.ensures c.in-Nothing.is
 
 pub returns-in-Place : goal.returns-in-Place
 returns-in-Place c =
     let s = c in
-    let g = c.d-1.is in
     read-place s.args.cart.now s.args.memory.now s.requires (c.if-memory-memory_size.false ∙ c.memory_size.ensures ∙ ap memory_size c.kind_in-kind.ensures) s.args.bit.now _ c.eeprom_in-e.result c.draw-d.result
-    c.eeprom_in-e.ensures (c.read_bit.ensures ∙ ap₂ (λ (p : Bool) (x : Eeprom). read_bit p x c.args.memory.now) (c.uses_eeprom.ensures ∙ ap uses_eeprom c.kind_in-kind.ensures) c.eeprom_in-e.ensures) c.draw-d.ensures g.0.0 g.1 c.put_place.ensures
+    c.eeprom_in-e.ensures (c.read_bit.ensures ∙ ap₂ (λ (p : Bool) (x : Eeprom). read_bit p x c.args.memory.now) (c.uses_eeprom.ensures ∙ ap uses_eeprom c.kind_in-kind.ensures) c.eeprom_in-e.ensures) c.draw-d.ensures c.in-Place.place c.in-Place.is c.put_place.ensures
 
 pub returns-in-Ended : goal.returns-in-Ended
 returns-in-Ended c =
     let s = c in
     read-end s.args.cart.now s.args.memory.now s.requires (c.if-memory-memory_size.false ∙ c.memory_size.ensures ∙ ap memory_size c.kind_in-kind.ensures) s.args.bit.now _ c.eeprom_in-e.result c.draw-d.result
-    c.eeprom_in-e.ensures (c.read_bit.ensures ∙ ap₂ (λ (p : Bool) (x : Eeprom). read_bit p x c.args.memory.now) (c.uses_eeprom.ensures ∙ ap uses_eeprom c.kind_in-kind.ensures) c.eeprom_in-e.ensures) c.draw-d.ensures c.enum_told-in-Ended-1.is.1
+    c.eeprom_in-e.ensures (c.read_bit.ensures ∙ ap₂ (λ (p : Bool) (x : Eeprom). read_bit p x c.args.memory.now) (c.uses_eeprom.ensures ∙ ap uses_eeprom c.kind_in-kind.ensures) c.eeprom_in-e.ensures) c.draw-d.ensures c.in-Ended.is
     c.put_ended.ensures

@@ -20,5 +20,5 @@ returns c =
       c.put_eeprom.ensures
           ∙ ap (λ (b : Bool). with_serial a.cart.now b t.result.eeprom) c.stores.ensures
           ∙ ap (λ (x : EepromStep). with_serial a.cart.now (stores x.store) x.eeprom) t.ensures,
-      c.apply.ensures ∙ ap (λ (x : EepromStep). with_count a.memory-1.now (stored x.store [] a.memory-1.now) a.tallies-1.now) t.ensures,
+      c.apply.ensures ∙ ap (λ (x : EepromStep). with_count a.memory.now (stored x.store [] a.memory.now) a.tallies.now) t.ensures,
     )

@@ -10,7 +10,7 @@ use Rattle.c_serial_calls.proofs.write_any.Goals as goal
 pub returns-then-not-is_record : goal.returns-then-not-is_record
 returns-then-not-is_record c =
     let a = c.args in
-    ap (changed_at a.changed.now) (no_record (step (eeprom_write a.value) []) [] a.cart.now a.memory-1.now a.tallies-1.now (denied _ c.is_record.ensures.value c.if-not-is_record.true))
+    ap (changed_at a.changed.now) (no_record (step (eeprom_write a.value) []) [] a.cart.now a.memory.now a.tallies.now (denied _ c.is_record.ensures.value c.if-not-is_record.true))
 
 pub write_valid-requires : goal.write_valid-requires
 write_valid-requires c =

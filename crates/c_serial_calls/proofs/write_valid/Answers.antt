@@ -52,18 +52,16 @@ turn_in-requires c =
 pub returns-in-More : goal.returns-in-More
 returns-in-More c =
     let s = c in
-    let g = c.s-1.is in
     let k = c.kind_in-kind.ensures in
     let e = c.eeprom_in-e in
     write-more s.args.cart.now s.args.memory.now s.requires (c.if-memory-memory_size.false ∙ c.memory_size.ensures ∙ ap memory_size k) s.args.tallies.now (c.if-tallies-tally_count.false ∙ c.tally_count.ensures ∙ ap tally_count k) s.args.value s.args.changed.now e.result c.w.result c.shift-s.result
-    (granted _ (c.uses_eeprom.ensures ∙ ap uses_eeprom k) c.if-not-uses_eeprom.false) e.ensures c.w.ensures c.shift-s.ensures (λ i. omega (arith, c.type_inv.tallies i)) g.0.0 g.0.1.0 g.1 c.put_shift.ensures
+    (granted _ (c.uses_eeprom.ensures ∙ ap uses_eeprom k) c.if-not-uses_eeprom.false) e.ensures c.w.ensures c.shift-s.ensures (λ i. omega (arith, c.type_inv.tallies i)) c.in-More.acc c.in-More.count c.in-More.is c.put_shift.ensures
 
 pub returns-in-Full : goal.returns-in-Full
 returns-in-Full c =
     let s = c in
-    let g = c.s-in-Full-1.is in
     let k = c.kind_in-kind.ensures in
     let e = c.eeprom_in-e in
     let t = c.turn_in.ensures in
     write-turn s.args.cart.now s.args.memory.now s.requires (c.if-memory-memory_size.false ∙ c.memory_size.ensures ∙ ap memory_size k) s.args.tallies.now (c.if-tallies-tally_count.false ∙ c.tally_count.ensures ∙ ap tally_count k) s.args.value s.args.changed.now e.result c.w.result c.shift-s.result
-    (granted _ (c.uses_eeprom.ensures ∙ ap uses_eeprom k) c.if-not-uses_eeprom.false) e.ensures c.w.ensures c.shift-s.ensures g.0.0 g.1 t.cart_after t.tallies_after
+    (granted _ (c.uses_eeprom.ensures ∙ ap uses_eeprom k) c.if-not-uses_eeprom.false) e.ensures c.w.ensures c.shift-s.ensures c.in-Full.acc c.in-Full.is t.cart_after t.tallies_after

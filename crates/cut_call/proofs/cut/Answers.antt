@@ -24,18 +24,18 @@ slice_bounds-resume-end c =
     let d = c in
     let s = c in
     let a = s.args in
-    let left = d.save_data-exported.new.1.1.0 in
-    let v = value-fits a.scratch-1.now left a.cart a.memory-1.now d.save_data-exported.result s.requires.cart_value s.requires.memory_len s.requires.memory_in_bounds d.save_data-exported.ensures in
-    omega (arith, v, length-append left (drop (length a.memory-1.now) a.scratch-1.now))
+    let left = d.save_data-exported.new.destination.1.1.0 in
+    let v = value-fits a.scratch.now left a.cart a.memory.now d.save_data-exported.result s.requires.cart_value s.requires.memory_len s.requires.memory_in_bounds d.save_data-exported.ensures in
+    omega (arith, v, length-append left (drop (length a.memory.now) a.scratch.now))
 
 pub slice_bounds-resume-end-2 : goal.slice_bounds-resume-end-2
 slice_bounds-resume-end-2 c =
     let d = c in
     let s = c in
     let a = s.args in
-    let left = d.save_data-exported.new.1.1.0 in
-    let v = value-fits a.scratch-1.now left a.cart a.memory-1.now d.save_data-exported.result s.requires.cart_value s.requires.memory_len s.requires.memory_in_bounds d.save_data-exported.ensures in
-    sym (length-take-le _ _ (omega (arith, v, length-append left (drop (length a.memory-1.now) a.scratch-1.now))))
+    let left = d.save_data-exported.new.destination.1.1.0 in
+    let v = value-fits a.scratch.now left a.cart a.memory.now d.save_data-exported.result s.requires.cart_value s.requires.memory_len s.requires.memory_in_bounds d.save_data-exported.ensures in
+    sym (length-take-le _ _ (omega (arith, v, length-append left (drop (length a.memory.now) a.scratch.now))))
 
 pub returns : goal.returns
 unfolding cut
@@ -43,14 +43,14 @@ returns c =
     let d = c in
     let s = c in
     let a = s.args in
-    let m = a.memory-1.now in
-    let ts = a.tallies-1.now in
+    let m = a.memory.now in
+    let ts = a.tallies.now in
     let t = state a.cart m in
     let f = (from_bytes a.image.now a.part m ts).next in
     let k = c.chip_state-kept.ensures m in
     c.resume.ensures
     ∙ ap₂ (λ (b : List ℕ) (u : State). (restore b u).next)
     ((λ i. (k i).0.bytes) ∙ bytes-are t s.requires.cart_value ∙ sym (bytes-left-apart ts t))
-    (reloads a.scratch-1.now d.save_data-exported.new.1.1.0 a.cart m d.save_data-exported.result s.requires.cart_value s.requires.memory_len s.requires.memory_in_bounds d.save_data-exported.ensures
-    (drop (length m) a.scratch-1.now) f
+    (reloads a.scratch.now d.save_data-exported.new.destination.1.1.0 a.cart m d.save_data-exported.result s.requires.cart_value s.requires.memory_len s.requires.memory_in_bounds d.save_data-exported.ensures
+    (drop (length m) a.scratch.now) f
     ∙ ap (λ (o : Option (List ℕ)). reloaded o f) (sym (file-left-apart ts t)))

@@ -8,8 +8,8 @@ returns-then-not-tells6 c = rw (denied _ c.tells6.ensures c.if-not-tells6.true)
 
 pub returns-then-not-is_address : goal.returns-then-not-is_address
 unfolding dma_question
-returns-then-not-is_address c = rw (granted _ c.tells6.ensures c.if-not-tells6.false, denied _ c.is_Address.ensures c.if-not-is_address.true)
+returns-then-not-is_address c = rw (granted _ c.tells6.ensures c.if-not-tells6.false, denied _ c.is_address.ensures c.if-not-is_address.true)
 
 pub returns : goal.returns
 unfolding dma_question
-returns c = rw (granted _ c.tells6.ensures c.if-not-tells6.false, granted _ c.is_Address.ensures c.if-not-is_address.false)
+returns c = rw (granted _ c.tells6.ensures c.if-not-tells6.false, granted _ c.is_address.ensures c.if-not-is_address.false)

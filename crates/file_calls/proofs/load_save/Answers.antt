@@ -13,15 +13,15 @@ unfolding questions
 returns-then-refusal-ne0 c =
     let a = c.args in
     let d = c.store_door-refusal in
-    let s = tallied a.cart a.memory-1.now a.tallies-1.now in
-    ap (λ (r : Reply). (r, a.memory-1.now, a.tallies-1.now)) c.refuse.ensures
+    let s = tallied a.cart a.memory.now a.tallies.now in
+    ap (λ (r : Reply). (r, a.memory.now, a.tallies.now)) c.refuse.ensures
     ∙ ap store_replied (sym (step-no (load_save a.file.now) [] s d.result d.ensures c.if-refusal-ne0.true))
 
 pub load-requires : goal.load-requires
 load-requires c =
     let a = c.args in
     let d = c.store_door-refusal in
-    let y = store-door-yes a.cart (length a.memory-1.now) (length a.tallies-1.now) d.result d.ensures c.if-refusal-ne0.false in
+    let y = store-door-yes a.cart (length a.memory.now) (length a.tallies.now) d.result d.ensures c.if-refusal-ne0.false in
     (y.1, y.2)
 
 pub returns : goal.returns
@@ -29,6 +29,6 @@ unfolding questions
 returns c =
     let a = c.args in
     let d = c.store_door-refusal in
-    let s = tallied a.cart a.memory-1.now a.tallies-1.now in
+    let s = tallied a.cart a.memory.now a.tallies.now in
     c.load.ensures
     ∙ ap store_replied (sym (step-yes (load_save a.file.now) [] s d.result d.ensures c.if-refusal-ne0.false))

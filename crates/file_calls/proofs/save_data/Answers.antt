@@ -22,8 +22,8 @@ returns-then-refusal-ne0 c =
     let a = c.args in
     let d = c.door-refusal in
     let s = state a.cart a.memory.now in
-    let e = door-no a.cart (length a.memory.now) (holds (file_of a.cart.kind s) a.destination-1.now else 13 ∷ []) d.result d.ensures c.if-refusal-ne0.true in
-    ap (λ (r : Reply). (r, a.destination-1.now)) c.refuse.ensures ∙ ap export_replied (sym (step-no save_data a.destination-1.now s d.result e c.if-refusal-ne0.true))
+    let e = door-no a.cart (length a.memory.now) (holds (file_of a.cart.kind s) a.destination.now else 13 ∷ []) d.result d.ensures c.if-refusal-ne0.true in
+    ap (λ (r : Reply). (r, a.destination.now)) c.refuse.ensures ∙ ap export_replied (sym (step-no save_data a.destination.now s d.result e c.if-refusal-ne0.true))
 
 pub returns-then-destination-n : goal.returns-then-destination-n
 unfolding questions
@@ -32,26 +32,26 @@ returns-then-destination-n c =
     let d = c.door-refusal in
     let s = state a.cart a.memory.now in
     let y = door-yes a.cart (length a.memory.now) d.result d.ensures c.if-refusal-ne0.false in
-    let e = door-more a.cart (length a.memory.now) (holds (file_of a.cart.kind s) a.destination-1.now else 13 ∷ []) d.result d.ensures c.if-refusal-ne0.false in
-    let h = holds-is s a.destination-1.now a.cart.kind y.1 in
-    ap (λ (r : Reply). (r, a.destination-1.now)) c.refuse-then-destination-n.ensures
-    ∙ ap export_replied (sym (step-no save_data a.destination-1.now s 13 (sym (e ∙ rw (h, ← c.file_length-n.ensures, lt-leb _ _ c.if-destination-n.true))) (λ z. omega arith)))
+    let e = door-more a.cart (length a.memory.now) (holds (file_of a.cart.kind s) a.destination.now else 13 ∷ []) d.result d.ensures c.if-refusal-ne0.false in
+    let h = holds-is s a.destination.now a.cart.kind y.1 in
+    ap (λ (r : Reply). (r, a.destination.now)) c.refuse-then-destination-n.ensures
+    ∙ ap export_replied (sym (step-no save_data a.destination.now s 13 (sym (e ∙ rw (h, ← c.file_length-n.ensures, lt-leb _ _ c.if-destination-n.true))) (λ z. omega arith)))
 
 pub slice_bounds-copy_file-end : goal.slice_bounds-copy_file-end
 slice_bounds-copy_file-end c =
     let a = c.args in
     let y = door-yes a.cart (length a.memory.now) c.door-refusal.result c.door-refusal.ensures c.if-refusal-ne0.false in
-    sym (length-take-le c.file_length-n.result a.memory.now (omega (arith, c.file_length-n.ensures, y.1, length-fits a.cart.kind a.cart.chip-1.eeprom.large)))
+    sym (length-take-le c.file_length-n.result a.memory.now (omega (arith, c.file_length-n.ensures, y.1, length-fits a.cart.kind a.cart.chip.eeprom.large)))
 
 pub copy_file-requires : goal.copy_file-requires
 copy_file-requires c =
     let a = c.args in
     let y = door-yes a.cart (length a.memory.now) c.door-refusal.result c.door-refusal.ensures c.if-refusal-ne0.false in
-    let l = length-take-le c.file_length-n.result a.memory.now (omega (arith, c.file_length-n.ensures, y.1, length-fits a.cart.kind a.cart.chip-1.eeprom.large)) in
-    (omega (arith, l, c.if-destination-n.false), omega (arith, l, c.file_length-n.ensures, length-small a.cart.kind a.cart.chip-1.eeprom.large))
+    let l = length-take-le c.file_length-n.result a.memory.now (omega (arith, c.file_length-n.ensures, y.1, length-fits a.cart.kind a.cart.chip.eeprom.large)) in
+    (omega (arith, l, c.if-destination-n.false), omega (arith, l, c.file_length-n.ensures, length-small a.cart.kind a.cart.chip.eeprom.large))
 
 pub overflow_cast-n : goal.overflow_cast-n
-overflow_cast-n c = let a = c.args in omega (arith, c.file_length-n.ensures, length-small a.cart.kind a.cart.chip-1.eeprom.large)
+overflow_cast-n c = let a = c.args in omega (arith, c.file_length-n.ensures, length-small a.cart.kind a.cart.chip.eeprom.large)
 
 pub returns : goal.returns
 unfolding questions accepted store_of
@@ -60,9 +60,9 @@ returns c =
     let d = c.door-refusal in
     let s = state a.cart a.memory.now in
     let y = door-yes a.cart (length a.memory.now) d.result d.ensures c.if-refusal-ne0.false in
-    let e = door-more a.cart (length a.memory.now) (holds (file_of a.cart.kind s) a.destination-1.now else 13 ∷ []) d.result d.ensures c.if-refusal-ne0.false in
-    let h = holds-is s a.destination-1.now a.cart.kind y.1 in
+    let e = door-more a.cart (length a.memory.now) (holds (file_of a.cart.kind s) a.destination.now else 13 ∷ []) d.result d.ensures c.if-refusal-ne0.false in
+    let h = holds-is s a.destination.now a.cart.kind y.1 in
     ap₂ (λ (r : Reply) (l : List ℕ). (r, l)) c.done.ensures c.copy_file.ensures
-    ∙ ap (λ (n : ℕ). (done n a.cart, into (take n a.memory.now) a.destination-1.now)) c.file_length-n.ensures
-    ∙ sym (exported-is s a.destination-1.now a.cart.kind y.1)
-    ∙ ap export_replied (sym (step_kept save_data a.destination-1.now s 0 (sym (e ∙ rw (h, ← c.file_length-n.ensures, le-leb _ _ c.if-destination-n.false))) refl refl))
+    ∙ ap (λ (n : ℕ). (done n a.cart, into (take n a.memory.now) a.destination.now)) c.file_length-n.ensures
+    ∙ sym (exported-is s a.destination.now a.cart.kind y.1)
+    ∙ ap export_replied (sym (step_kept save_data a.destination.now s 0 (sym (e ∙ rw (h, ← c.file_length-n.ensures, le-leb _ _ c.if-destination-n.false))) refl refl))

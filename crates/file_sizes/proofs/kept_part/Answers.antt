@@ -9,13 +9,12 @@ use Rattle.file_sizes.proofs.kept_part.Goals as goal
 pub slice_bounds-result-end : goal.slice_bounds-result-end
 slice_bounds-result-end c =
     let a = c.args in
-    let g = c.fit-1.given in
-    sym (length-take-le g.0.0 a.file.now (keeps-le a.kind (length a.file.now) g.0.0 (sym c.save_fit-fit.ensures ∙ g.1)))
+    sym (length-take-le c.in-Keeps.n a.file.now (keeps-le a.kind (length a.file.now) c.in-Keeps.n (sym c.save_fit-fit.ensures ∙ c.in-Keeps.is)))
 
 pub returns-in-Keeps : goal.returns-in-Keeps
 unfolding kept_part
-returns-in-Keeps c = rw (sym c.save_fit-fit.ensures ∙ c.fit-1.given.1)
+returns-in-Keeps c = rw (sym c.save_fit-fit.ensures ∙ c.in-Keeps.is)
 
 pub returns-in-Refused : goal.returns-in-Refused
 unfolding kept_part
-returns-in-Refused c = rw (sym c.save_fit-fit.ensures ∙ c.enum_told-1.given.1)
+returns-in-Refused c = rw (sym c.save_fit-fit.ensures ∙ c.in-Refused.is)

@@ -13,70 +13,63 @@ use Rattle.memory.proofs.apply_any.Goals as goal
 pub put_byte-requires : goal.put_byte-requires
 put_byte-requires c =
     let s = c in
-    let g = c.store-1.is in
-    (s.requires.tallied, fits-case s.args.store (Byte g.0.0 g.0.1.0) (length s.args.memory.now) g.1 s.requires.fits)
+    record { tallied = s.requires.tallied; place_in_bounds = fits-case s.args.store (Byte c.in-Byte.place c.in-Byte.value) (length s.args.memory.now) c.in-Byte.is s.requires.fits }
 
 pub put_block-requires : goal.put_block-requires
 put_block-requires c =
     let s = c in
-    let g = c.store-in-Block-1.is in
-    (s.requires.tallied, fits-case s.args.store (Block g.0.0 g.0.1.0) (length s.args.memory.now) g.1 s.requires.fits)
+    record { tallied = s.requires.tallied; block_in_bounds = fits-case s.args.store (Block c.in-Block.block c.in-Block.word) (length s.args.memory.now) c.in-Block.is s.requires.fits }
 
 pub erase_sector-requires : goal.erase_sector-requires
 erase_sector-requires c =
     let s = c in
-    let g = c.store-in-Sector-1.is in
-    (s.requires.tallied, fits-case s.args.store (Sector g.0.0) (length s.args.memory.now) g.1 s.requires.fits)
+    record { tallied = s.requires.tallied; fits = fits-case s.args.store (Sector c.in-Sector.place) (length s.args.memory.now) c.in-Sector.is s.requires.fits }
 
 pub load-requires : goal.load-requires
 load-requires c =
     let s = c in
-    (s.requires.tallied, fits-case s.args.store Chip (length s.args.memory.now) c.enum_told-in-Chip-1.given.1 s.requires.fits)
+    record { tallied = s.requires.tallied; memory_len_bound = fits-case s.args.store Chip (length s.args.memory.now) c.in-Chip.is s.requires.fits }
 
 pub load-requires-in-File : goal.load-requires-in-File
 load-requires-in-File c =
     let s = c in
-    (s.requires.tallied, fits-case s.args.store File (length s.args.memory.now) c.enum_told-in-File-1.is.1 s.requires.fits)
+    record { tallied = s.requires.tallied; memory_len_bound = fits-case s.args.store File (length s.args.memory.now) c.in-File.is s.requires.fits }
 
 pub returns-in-Nothing : goal.returns-in-Nothing
 unfolding stored
 returns-in-Nothing c =
     let a = c.args in
-    rw c.enum_told-1.is.1 (none-counted a.memory-1.now a.tallies-1.now (λ i. omega (arith, c.type_inv.tallies i)))
+    rw c.in-Nothing.is (none-counted a.memory.now a.tallies.now (λ i. omega (arith, c.type_inv.tallies i)))
 
 pub returns-in-Byte : goal.returns-in-Byte
 unfolding stored
 returns-in-Byte c =
     let a = c.args in
-    let g = c.store-1.is in
-    stored-case a.store-1 (Byte g.0.0 g.0.1.0) a.file.now a.memory-1.now a.tallies-1.now g.1 c.put_byte.ensures
+    stored-case a.store (Byte c.in-Byte.place c.in-Byte.value) a.file.now a.memory.now a.tallies.now c.in-Byte.is c.put_byte.ensures
 
 pub returns-in-Block : goal.returns-in-Block
 unfolding stored
 returns-in-Block c =
     let a = c.args in
-    let g = c.store-in-Block-1.is in
-    stored-case a.store-1 (Block g.0.0 g.0.1.0) a.file.now a.memory-1.now a.tallies-1.now g.1 c.put_block.ensures
+    stored-case a.store (Block c.in-Block.block c.in-Block.word) a.file.now a.memory.now a.tallies.now c.in-Block.is c.put_block.ensures
 
 pub returns-in-Sector : goal.returns-in-Sector
 unfolding stored
 returns-in-Sector c =
     let a = c.args in
-    let g = c.store-in-Sector-1.is in
-    stored-case a.store-1 (Sector g.0.0) a.file.now a.memory-1.now a.tallies-1.now g.1 c.erase_sector.ensures
+    stored-case a.store (Sector c.in-Sector.place) a.file.now a.memory.now a.tallies.now c.in-Sector.is c.erase_sector.ensures
 
 pub returns-in-Chip : goal.returns-in-Chip
 unfolding stored
 returns-in-Chip c =
     let a = c.args in
-    let m = a.memory-1.now in
-    let ts = a.tallies-1.now in
-    stored-case a.store-1 Chip a.file.now m ts c.enum_told-in-Chip-1.given.1
+    let m = a.memory.now in
+    let ts = a.tallies.now in
+    stored-case a.store Chip a.file.now m ts c.in-Chip.is
     (c.load.ensures ∙ ap (λ (l : List ℕ). with_count m l ts) (filled_none (length m)))
 
 pub returns-in-File : goal.returns-in-File
 unfolding stored
 returns-in-File c =
     let a = c.args in
-    let g = c.enum_told-in-File-1.is in
-    stored-case a.store-1 File a.file.now a.memory-1.now a.tallies-1.now g.1 c.load-in-File.ensures
+    stored-case a.store File a.file.now a.memory.now a.tallies.now c.in-File.is c.load-in-File.ensures

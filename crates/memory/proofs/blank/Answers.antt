@@ -4,4 +4,4 @@ use Rattle.memory.proofs.blank.Goals as goal
 
 pub returns : goal.returns
 unfolding erased
-returns c = (c.fill.ensures, c.clear.ensures)
+returns c = record { memory_after = c.fill.ensures; tallies_after = c.clear.ensures }

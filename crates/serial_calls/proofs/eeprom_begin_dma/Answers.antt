@@ -35,6 +35,6 @@ returns c =
     let a = c.args in
     let e = granted _ c.record_allowed.ensures c.if-not-record_allowed.false in
     let f = granted _ c.dma_allowed.ensures c.if-not-dma_allowed.false in
-    let g = c.with_eeprom.ensures ∙ ap (λ (x : Eeprom). cart_with a.cart a.cart.dirty (chip_record a.cart.chip-1.flash x)) c.begin_dma.ensures in
+    let g = c.with_eeprom.ensures ∙ ap (λ (x : Eeprom). cart_with a.cart a.cart.dirty (chip_record a.cart.chip.flash x)) c.begin_dma.ensures in
     λ m.
     ap (λ (r : Reply). (r, m)) (c.done.ensures ∙ ap (done 0) g) ∙ ap replied (sym (step_kept (eeprom_begin_dma a.words) [] (state a.cart m) 0 (rw (e, f)) refl refl))

@@ -38,7 +38,7 @@ unfolding questions accepted store_of
 returns c =
     let a = c.args in
     let m = a.memory.now in
-    let v = c.read_bit-value.ensures ∙ ap (λ k. read_bit k a.cart.chip-1.eeprom m) c.uses_eeprom.ensures in
-    let e = c.with_eeprom.ensures ∙ ap (λ (x : Eeprom). cart_with a.cart a.cart.dirty (chip_record a.cart.chip-1.flash x)) c.after_read.ensures in
+    let v = c.read_bit-value.ensures ∙ ap (λ k. read_bit k a.cart.chip.eeprom m) c.uses_eeprom.ensures in
+    let e = c.with_eeprom.ensures ∙ ap (λ (x : Eeprom). cart_with a.cart a.cart.dirty (chip_record a.cart.chip.flash x)) c.after_read.ensures in
     ap (λ (r : Reply). (r, m)) (c.done.ensures ∙ ap₂ done v e)
     ∙ ap replied (sym (step_kept eeprom_read [] (state a.cart m) c.door-refusal.result c.door-refusal.ensures refl c.if-refusal-ne0.false))

@@ -14,4 +14,4 @@ pub returns : goal.returns
 returns c =
     let a = c.args in
     c.from_number.ensures
-    ∙ ap (λ (n : ℕ). store_replied (from_bytes a.image.now n a.memory-1.now a.tallies-1.now)) c.part_number.ensures
+    ∙ ap (λ (n : ℕ). store_replied (from_bytes a.image.now n a.memory.now a.tallies.now)) c.part_number.ensures

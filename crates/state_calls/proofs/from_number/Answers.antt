@@ -32,7 +32,7 @@ unopened i p m ts n e h q k =
 pub returns-then-not-image_length : goal.returns-then-not-image_length
 returns-then-not-image_length c =
     let a = c.args in
-    unopened a.image.now a.part a.memory-1.now a.tallies-1.now 1
+    unopened a.image.now a.part a.memory.now a.tallies.now 1
     (rw (denied _ c.image_length.ensures c.if-not-image_length.true)) (λ z. omega arith)
     c.refuse.ensures c.no_cart.ensures
 
@@ -41,7 +41,7 @@ returns-then-memory-memory_size c =
     let a = c.args in
     let e = granted _ c.image_length.ensures c.if-not-image_length.false in
     let n = c.memory_size.ensures ∙ ap memory_size c.detect_save_type-kind.ensures in
-    unopened a.image.now a.part a.memory-1.now a.tallies-1.now 3
+    unopened a.image.now a.part a.memory.now a.tallies.now 3
     (rw (e, ← n, ne_eqb _ _ c.if-memory-memory_size.true)) (λ z. omega arith)
     c.refuse-then-memory-memory_size.ensures c.no_cart-then-memory-memory_size.ensures
 
@@ -52,7 +52,7 @@ returns-then-tallies-tally_count c =
     let e = granted _ c.image_length.ensures c.if-not-image_length.false in
     let n = c.memory_size.ensures ∙ ap memory_size k in
     let t = c.tally_count.ensures ∙ ap tally_count k in
-    unopened a.image.now a.part a.memory-1.now a.tallies-1.now 16
+    unopened a.image.now a.part a.memory.now a.tallies.now 16
     (rw (e, ← n, eq-eqb _ _ c.if-memory-memory_size.false, ← t, ne_eqb _ _ c.if-tallies-tally_count.true)) (λ z. omega arith)
     c.refuse-then-tallies-tally_count.ensures c.no_cart-then-tallies-tally_count.ensures
 
@@ -64,7 +64,7 @@ returns-then-not-number_fits c =
     let n = c.memory_size.ensures ∙ ap memory_size k in
     let t = c.tally_count.ensures ∙ ap tally_count k in
     let f = denied _ (c.number_fits.ensures ∙ ap (number_fits a.part) k) c.if-not-number_fits.true in
-    unopened a.image.now a.part a.memory-1.now a.tallies-1.now 15
+    unopened a.image.now a.part a.memory.now a.tallies.now 15
     (rw (e, ← n, eq-eqb _ _ c.if-memory-memory_size.false, ← t, eq-eqb _ _ c.if-tallies-tally_count.false, f)) (λ z. omega arith)
     c.refuse-then-not-number_fits.ensures c.no_cart-then-not-number_fits.ensures
 
@@ -73,8 +73,8 @@ unfolding from_bytes fresh
 returns c =
     let a = c.args in
     let i = a.image.now in
-    let m = a.memory-1.now in
-    let ts = a.tallies-1.now in
+    let m = a.memory.now in
+    let ts = a.tallies.now in
     let p = a.part in
     let k = c.detect_save_type-kind.ensures in
     let e = granted _ c.image_length.ensures c.if-not-image_length.false in

@@ -27,7 +27,7 @@ feed-t-requires c =
     let p = c.requires in
     let text = c.args.text.now in
     let l = length-take-le (c.piece_end-end.result - b.i) (drop b.i text) (omega (arith, e, length-drop b.i text)) in
-    (omega (arith, b.invariant.1, p.in_bounds), (omega (arith, b.invariant.2, p.in_bounds_2.0), omega (arith, l, e, b.invariant.3, p.in_bounds_2.1)))
+    (omega (arith, b.invariant.1, p.in_bounds), (omega (arith, b.invariant.2, p.in_bounds_2), omega (arith, l, e, b.invariant.3, p.in_bounds_3)))
 
 pub show-session-requires : goal.show-session-requires
 show-session-requires c = omega (arith, c.feed-t.ensures.len_in_bounds, c.out-1.given)

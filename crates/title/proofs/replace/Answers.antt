@@ -18,38 +18,38 @@ pub overflow_add-n : goal.overflow_add-n
 overflow_add-n c =
     let b = c.loop-t in
     let s = c.show-e in
-    omega (arith, used-most b.out-1 b.t-1.now b.n c.loop-t-test.true b.invariant.0 s.result s.new.0 s.ensures, len-most b.out-1 b.t-1.now b.n c.loop-t-test.true b.invariant.0 s.result s.new.0 s.ensures)
+    omega (arith, used-most b.out b.t.now b.n c.loop-t-test.true b.invariant.0 s.result s.new.out s.ensures, len-most b.out b.t.now b.n c.loop-t-test.true b.invariant.0 s.result s.new.out s.ensures)
 
 pub slice_bounds-t-count : goal.slice_bounds-t-count
 slice_bounds-t-count c =
     let b = c.loop-t in
     let s = c.show-e in
-    used-most b.out-1 b.t-1.now b.n c.loop-t-test.true b.invariant.0 s.result s.new.0 s.ensures
+    used-most b.out b.t.now b.n c.loop-t-test.true b.invariant.0 s.result s.new.out s.ensures
 
 pub slice_bounds-t-start : goal.slice_bounds-t-start
 slice_bounds-t-start c =
     let b = c.loop-t in
     let s = c.show-e in
-    used-most b.out-1 b.t-1.now b.n c.loop-t-test.true b.invariant.0 s.result s.new.0 s.ensures
+    used-most b.out b.t.now b.n c.loop-t-test.true b.invariant.0 s.result s.new.out s.ensures
 
 pub loop-t-smaller : goal.loop-t-smaller
 loop-t-smaller c =
     let b = c.loop-t in
     let s = c.show-e in
-    omega (arith, c.t-1.given.2, used-least b.out-1 b.t-1.now b.n c.loop-t-test.true b.invariant.0 s.result s.new.0 s.ensures)
+    omega (arith, used-least b.out b.t.now b.n c.loop-t-test.true b.invariant.0 s.result s.new.out s.ensures)
 
 pub loop-t-preserved : goal.loop-t-preserved
 loop-t-preserved c =
     let b = c.loop-t in
     let s = c.show-e in
     let h = c.loop-t-test.true in
-    let m = used-most b.out-1 b.t-1.now b.n h b.invariant.0 s.result s.new.0 s.ensures in
-    let l = len-most b.out-1 b.t-1.now b.n h b.invariant.0 s.result s.new.0 s.ensures in
-    let k = behind-length b.out-1 b.t-1.now b.n h b.invariant.0 s.result s.new.0 s.ensures in
-    (omega (arith, c.t-1.given.2, m, l, k), k ∙ b.invariant.1, turn b.out-1 b.t-1.now b.n h b.invariant.0 s.result s.new.0 s.ensures c.args.s.now b.invariant.2)
+    let m = used-most b.out b.t.now b.n h b.invariant.0 s.result s.new.out s.ensures in
+    let l = len-most b.out b.t.now b.n h b.invariant.0 s.result s.new.out s.ensures in
+    let k = behind-length b.out b.t.now b.n h b.invariant.0 s.result s.new.out s.ensures in
+    (omega (arith, m, l, k), k ∙ b.invariant.1, turn b.out b.t.now b.n h b.invariant.0 s.result s.new.out s.ensures c.args.s.now b.invariant.2)
 
 pub shape_of-out : goal.shape_of-out
 shape_of-out c = c.loop-t.invariant.1
 
 pub returns : goal.returns
-returns c = let b = c.loop-t in (none_left (take b.n b.out-1) b.t-1.now c.loop-t-test.false ∙ b.invariant.2, omega arith)
+returns c = let b = c.loop-t in (none_left (take b.n b.out) b.t.now c.loop-t-test.false ∙ b.invariant.2, omega arith)

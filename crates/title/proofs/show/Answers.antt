@@ -7,21 +7,17 @@ use Rattle.title.proofs.show.Goals as goal
 
 pub slice_bounds-copy-end : goal.slice_bounds-copy-end
 slice_bounds-copy-end c =
-    let g = c.first-1.given in
-    sym (length-take-le g.0.0 c.args.s.now (well-fits c.args.s.now g.0.0 c.requires.0 (sym c.sequence-first.ensures ∙ g.1)))
+    sym (length-take-le c.in-Well.n c.args.s.now (well-fits c.args.s.now c.in-Well.n c.requires.0 (sym c.sequence-first.ensures ∙ c.in-Well.is)))
 
 pub copy-requires : goal.copy-requires
 copy-requires c =
-    let g = c.first-1.given in
-    let h = well-fits c.args.s.now g.0.0 c.requires.0 (sym c.sequence-first.ensures ∙ g.1) in
-    omega (arith, length-take-le g.0.0 c.args.s.now h, c.requires)
+    let h = well-fits c.args.s.now c.in-Well.n c.requires.0 (sym c.sequence-first.ensures ∙ c.in-Well.is) in
+    omega (arith, length-take-le c.in-Well.n c.args.s.now h, c.requires)
 
 pub returns-in-Well : goal.returns-in-Well
 returns-in-Well c =
-    let g = c.first-1.given in
-    shows-well c.args.s.now c.args.out.now g.0.0 c.requires.0 (sym c.sequence-first.ensures ∙ g.1) c.copy.ensures
+    shows-well c.args.s.now c.args.out.now c.in-Well.n c.requires.0 (sym c.sequence-first.ensures ∙ c.in-Well.is) c.copy.ensures
 
 pub returns-in-Ill : goal.returns-in-Ill
 returns-in-Ill c =
-    let g = c.first-in-Ill-1.given in
-    shows-ill c.args.s.now c.args.out.now g.0.0 (sym c.sequence-first.ensures ∙ g.1) c.copy-in-Ill.ensures
+    shows-ill c.args.s.now c.args.out.now c.in-Ill.n (sym c.sequence-first.ensures ∙ c.in-Ill.is) c.copy-in-Ill.ensures

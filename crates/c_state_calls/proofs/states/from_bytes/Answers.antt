@@ -6,4 +6,4 @@ pub returns : goal.returns
 returns c =
     let a = c.args in
     let o = c.from_number-opened in
-    opened a.image.now a.part a.memory-1.now a.tallies-1.now o.result o.ensures c.record_bytes.ensures
+    opened a.image.now a.part a.memory.now a.tallies.now o.result o.ensures c.record_bytes.ensures

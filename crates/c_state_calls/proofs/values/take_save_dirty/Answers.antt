@@ -12,7 +12,7 @@ use Rattle.c_state_calls.proofs.values.take_save_dirty.Goals as goal
 pub returns-then-not-is_record : goal.returns-then-not-is_record
 returns-then-not-is_record c =
     let a = c.args in
-    λ m. ap (flag_at a.flag-1.now) (no_record (step take_save_dirty []) [] a.cart.now m [] (denied _ c.is_record.ensures.value c.if-not-is_record.true))
+    λ m. ap (flag_at a.flag.now) (no_record (step take_save_dirty []) [] a.cart.now m [] (denied _ c.is_record.ensures.value c.if-not-is_record.true))
 
 pub overflow_cast-flag : goal.overflow_cast-flag
 overflow_cast-flag c =
@@ -25,4 +25,4 @@ returns c =
     let q = c in
     let a = q.args in
     let i = q.is_record.ensures in
-    λ m. take-yes a.cart.now (i.valid (granted _ i.value q.if-not-is_record.false)) m a.flag-1.now
+    λ m. take-yes a.cart.now (i.valid (granted _ i.value q.if-not-is_record.false)) m a.flag.now

@@ -4,7 +4,7 @@ use Rattle.call_list.specs.Items.{item_room}
 use Rattle.call_list.proofs.items.item_room.Goals as goal
 
 pub overflow_add-result-in-SaveData : goal.overflow_add-result-in-SaveData
-overflow_add-result-in-SaveData c = omega (arith, ap item_room c.item-1.is.1, c.requires)
+overflow_add-result-in-SaveData c = omega (arith, ap item_room c.in-SaveData.is, c.requires)
 
 pub returns-in-SaveData : goal.returns-in-SaveData
-returns-in-SaveData c = sym (ap item_room c.item-1.is.1)
+returns-in-SaveData c = sym (ap item_room c.in-SaveData.is)

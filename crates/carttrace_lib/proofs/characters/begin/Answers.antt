@@ -13,19 +13,19 @@ use Rattle.carttrace_lib.proofs.Heard.{tells, new-front}
 use Rattle.carttrace_lib.proofs.characters.begin.Goals as goal
 
 pub slice_bounds-blank-end : goal.slice_bounds-blank-end
-slice_bounds-blank-end c = omega (arith, c.memory_size-n.ensures, memory-small c.first-1.is.0.0, c.requires.in_bounds)
+slice_bounds-blank-end c = omega (arith, c.memory_size-n.ensures, memory-small c.in-Fresh.kind, c.requires.in_bounds)
 
 pub slice_bounds-blank-end-in-Fresh : goal.slice_bounds-blank-end-in-Fresh
-slice_bounds-blank-end-in-Fresh c = sym (length-take-le _ c.args.memory.now (omega (arith, c.memory_size-n.ensures, memory-small c.first-1.is.0.0, c.requires.in_bounds)))
+slice_bounds-blank-end-in-Fresh c = sym (length-take-le _ c.args.memory.now (omega (arith, c.memory_size-n.ensures, memory-small c.in-Fresh.kind, c.requires.in_bounds)))
 
 pub slice_bounds-blank-end-in-Fresh-2 : goal.slice_bounds-blank-end-in-Fresh-2
-slice_bounds-blank-end-in-Fresh-2 c = omega (arith, c.tally_count-k.ensures, tallies-few c.first-1.is.0.0, c.requires.in_bounds_2)
+slice_bounds-blank-end-in-Fresh-2 c = omega (arith, c.tally_count-k.ensures, tallies-few c.in-Fresh.kind, c.requires.in_bounds_2)
 
 pub slice_bounds-blank-end-in-Fresh-3 : goal.slice_bounds-blank-end-in-Fresh-3
-slice_bounds-blank-end-in-Fresh-3 c = sym (length-take-le _ c.args.tallies.now (omega (arith, c.tally_count-k.ensures, tallies-few c.first-1.is.0.0, c.requires.in_bounds_2)))
+slice_bounds-blank-end-in-Fresh-3 c = sym (length-take-le _ c.args.tallies.now (omega (arith, c.tally_count-k.ensures, tallies-few c.in-Fresh.kind, c.requires.in_bounds_2)))
 
 pub print_status-requires : goal.print_status-requires
-print_status-requires c = omega (arith, c.requires.in_bounds_2.1)
+print_status-requires c = omega (arith, c.requires.longest_line_in_bounds)
 
 pub shape_of-memory : goal.shape_of-memory
 shape_of-memory c = c.memory-1.given.1
@@ -35,26 +35,25 @@ unfolding begun fresh_kind
 returns-in-Fresh c =
     let n = c.memory_size-n.ensures in
     let k = c.tally_count-k.ensures in
-    let f = c.first-1.is in
     let g = c.requires in
     let a = c.args in
-    let m = buffers a.memory-1.now a.tallies-1.now in
-    let kind = f.0.0 in
-    tells (begun (Fresh kind) a.session m) a.out-1.now c.Told-with.ensures
+    let m = buffers a.memory.now a.tallies.now in
+    let kind = c.in-Fresh.kind in
+    tells (begun (Fresh kind) a.session m) a.out.now c.Told-with.ensures
     (c.session_with.ensures ∙ (λ i. session_with Playing (c.empty_line.ensures i) (c.fresh_cart.ensures i)))
     c.print_status.ensures
-    (new-front erased a.memory-1.now n (omega (arith, n, memory-small kind, g.in_bounds)) c.blank.ensures.memory_after)
-    (new-front (λ j. replicate j 0) a.tallies-1.now k (omega (arith, k, tallies-few kind, g.in_bounds_2.0)) c.blank.ensures.tallies_after)
-    ∙ ap (λ (x : FirstLine). told (begun x a.session m) a.out-1.now) (sym f.1)
+    (new-front erased a.memory.now n (omega (arith, n, memory-small kind, g.in_bounds)) c.blank.ensures.memory_after)
+    (new-front (λ j. replicate j 0) a.tallies.now k (omega (arith, k, tallies-few kind, g.in_bounds_2)) c.blank.ensures.tallies_after)
+    ∙ ap (λ (x : FirstLine). told (begun x a.session m) a.out.now) (sym c.in-Fresh.is)
 
 pub returns-in-NoKind : goal.returns-in-NoKind
 unfolding begun
 returns-in-NoKind c =
     let a = c.args in
-    let m = buffers a.memory-1.now a.tallies-1.now in
-    tells (begun NoKind a.session m) a.out-1.now c.told_with-in-NoKind.ensures
-    (c.session_with-in-NoKind.ensures ∙ (λ i. session_with Over (c.empty_line-in-NoKind.ensures i) a.session.cart-1))
+    let m = buffers a.memory.now a.tallies.now in
+    tells (begun NoKind a.session m) a.out.now c.told_with-in-NoKind.ensures
+    (c.session_with-in-NoKind.ensures ∙ (λ i. session_with Over (c.empty_line-in-NoKind.ensures i) a.session.cart))
     c.print_status-in-NoKind.ensures
     refl
     refl
-    ∙ ap (λ (f : FirstLine). told (begun f a.session m) a.out-1.now) (sym c.enum_told-1.is.1)
+    ∙ ap (λ (f : FirstLine). told (begun f a.session m) a.out.now) (sym c.in-NoKind.is)

@@ -11,22 +11,22 @@ pub returns-in-First : goal.returns-in-First
 unfolding line_ended
 returns-in-First c =
     let a = c.args in
-    let m = buffers a.memory-1.now a.tallies-1.now in
-    c.begin.ensures ∙ (λ i. told (begun (c.first_in.ensures i) a.session m) a.out-1.now)
-    ∙ ap (λ (g : Stage). told (by_stage g (begun (first_in a.session.line-1) a.session m) (continued a.session m) (heard [] a.session m)) a.out-1.now) (sym c.enum_told-1.is.1)
+    let m = buffers a.memory.now a.tallies.now in
+    c.begin.ensures ∙ (λ i. told (begun (c.first_in.ensures i) a.session m) a.out.now)
+    ∙ ap (λ (g : Stage). told (by_stage g (begun (first_in a.session.line) a.session m) (continued a.session m) (heard [] a.session m)) a.out.now) (sym c.in-First.is)
 
 pub returns-in-Playing : goal.returns-in-Playing
 unfolding line_ended
 returns-in-Playing c =
     let a = c.args in
-    let m = buffers a.memory-1.now a.tallies-1.now in
+    let m = buffers a.memory.now a.tallies.now in
     c.go_on.ensures
-    ∙ ap (λ (g : Stage). told (by_stage g (begun (first_in a.session.line-1) a.session m) (continued a.session m) (heard [] a.session m)) a.out-1.now) (sym c.enum_told-in-Playing-1.is.1)
+    ∙ ap (λ (g : Stage). told (by_stage g (begun (first_in a.session.line) a.session m) (continued a.session m) (heard [] a.session m)) a.out.now) (sym c.in-Playing.is)
 
 pub returns-in-Over : goal.returns-in-Over
 unfolding line_ended into
 returns-in-Over c =
     let a = c.args in
-    let m = buffers a.memory-1.now a.tallies-1.now in
-    tells (heard [] a.session m) a.out-1.now c.Told-with.ensures refl refl refl refl
-    ∙ ap (λ (g : Stage). told (by_stage g (begun (first_in a.session.line-1) a.session m) (continued a.session m) (heard [] a.session m)) a.out-1.now) (sym c.enum_told-in-Over-1.is.1)
+    let m = buffers a.memory.now a.tallies.now in
+    tells (heard [] a.session m) a.out.now c.Told-with.ensures refl refl refl refl
+    ∙ ap (λ (g : Stage). told (by_stage g (begun (first_in a.session.line) a.session m) (continued a.session m) (heard [] a.session m)) a.out.now) (sym c.in-Over.is)

@@ -9,7 +9,7 @@ use Rattle.carttrace_lib.proofs.Short.{took-short}
 use Rattle.carttrace_lib.proofs.characters.feed.Goals as goal
 
 pub loop-i-init : goal.loop-i-init
-loop-i-init c = fed-start _ _ _ _ c.requires.in_bounds_2.1
+loop-i-init c = fed-start _ _ _ _ c.requires.input_in_bounds
 
 pub bounds-input-i : goal.bounds-input-i
 bounds-input-i c = omega (arith, c.loop-i-test)
@@ -25,18 +25,18 @@ take_in-t-requires c =
     let b = c.loop-i in
     let f = b.invariant in
     let p = c.requires in
-    let l = length-drop b.len b.out-1 in (
+    let l = length-drop b.len b.out in (
       omega (arith, f.memory_ok, p.in_bounds),
-      (omega (arith, f.tallies_ok, p.in_bounds_2.0), rw (rest b.len b.out-1) (omega (arith, l, f.len_ok, f.place_ok, f.room_ok, out-length f, c.loop-i-test))),
+      (omega (arith, f.tallies_ok, p.in_bounds_2), rw (rest b.len b.out) (omega (arith, l, f.len_ok, f.place_ok, f.room_ok, out-length f, c.loop-i-test))),
     )
 
 pub overflow_add-len : goal.overflow_add-len
 overflow_add-len c =
     let b = c.loop-i in
     let x = get_or c.args.input.now b.i 0 in
-    let m = buffers b.memory-1 b.tallies-1 in
-    let n : c.take_in-t.result.len ≡ length (took b.s-1 x m).text = λ i. (c.take_in-t.ensures i).0.len in
-    omega (arith, n, took-short b.s-1 x m, b.invariant.len_ok, c.loop-i-test, b.invariant.room_ok, c.well-formed)
+    let m = buffers b.memory b.tallies in
+    let n : c.take_in-t.result.len ≡ length (took b.s x m).text = λ i. (c.take_in-t.ensures i).0.len in
+    omega (arith, n, took-short b.s x m, b.invariant.len_ok, c.loop-i-test, b.invariant.room_ok, c.well-formed)
 
 pub overflow_add-i : goal.overflow_add-i
 overflow_add-i c = omega (arith, c.loop-i-test, c.well-formed)

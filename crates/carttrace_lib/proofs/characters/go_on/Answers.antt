@@ -12,16 +12,16 @@ use Rattle.carttrace_lib.proofs.Heard.{tells}
 use Rattle.carttrace_lib.proofs.characters.go_on.Goals as goal
 
 pub slice_bounds-play-end : goal.slice_bounds-play-end
-slice_bounds-play-end c = omega (arith, c.memory_size-n.ensures, memory-small c.args.session.cart-1.kind, c.requires.in_bounds)
+slice_bounds-play-end c = omega (arith, c.memory_size-n.ensures, memory-small c.args.session.cart.kind, c.requires.in_bounds)
 
 pub slice_bounds-play-end-2 : goal.slice_bounds-play-end-2
-slice_bounds-play-end-2 c = sym (length-take-le _ c.args.memory.now (omega (arith, c.memory_size-n.ensures, memory-small c.args.session.cart-1.kind, c.requires.in_bounds)))
+slice_bounds-play-end-2 c = sym (length-take-le _ c.args.memory.now (omega (arith, c.memory_size-n.ensures, memory-small c.args.session.cart.kind, c.requires.in_bounds)))
 
 pub slice_bounds-play-end-3 : goal.slice_bounds-play-end-3
-slice_bounds-play-end-3 c = omega (arith, c.tally_count-k.ensures, tallies-few c.args.session.cart-1.kind, c.requires.in_bounds_2)
+slice_bounds-play-end-3 c = omega (arith, c.tally_count-k.ensures, tallies-few c.args.session.cart.kind, c.requires.in_bounds_2)
 
 pub slice_bounds-play-end-4 : goal.slice_bounds-play-end-4
-slice_bounds-play-end-4 c = sym (length-take-le _ c.args.tallies.now (omega (arith, c.tally_count-k.ensures, tallies-few c.args.session.cart-1.kind, c.requires.in_bounds_2)))
+slice_bounds-play-end-4 c = sym (length-take-le _ c.args.tallies.now (omega (arith, c.tally_count-k.ensures, tallies-few c.args.session.cart.kind, c.requires.in_bounds_2)))
 
 pub returns : goal.returns
 unfolding continued
@@ -29,9 +29,9 @@ returns c =
     let a = c.args in
     let n = c.memory_size-n.ensures in
     let k = c.tally_count-k.ensures in
-    let e = c.play-p.ensures ∙ (λ i. shown (play (c.frame_in.ensures i) (tallied a.session.cart-1 (take (n i) a.memory-1.now) (take (k i) a.tallies-1.now))) a.out-1.now) in
-    tells (continued a.session (buffers a.memory-1.now a.tallies-1.now)) a.out-1.now c.Told-with.ensures
+    let e = c.play-p.ensures ∙ (λ i. shown (play (c.frame_in.ensures i) (tallied a.session.cart (take (n i) a.memory.now) (take (k i) a.tallies.now))) a.out.now) in
+    tells (continued a.session (buffers a.memory.now a.tallies.now)) a.out.now c.Told-with.ensures
     (c.session_with.ensures ∙ (λ i. session_with Playing (c.empty_line.ensures i) (e i).0.cart))
     (λ i. ((e i).0.len, (e i).3))
-    (λ i. (e i).1 ++ drop (n i) a.memory-1.now)
-    (λ i. (e i).2 ++ drop (k i) a.tallies-1.now)
+    (λ i. (e i).1 ++ drop (n i) a.memory.now)
+    (λ i. (e i).2 ++ drop (k i) a.tallies.now)

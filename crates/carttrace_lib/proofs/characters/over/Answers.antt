@@ -8,16 +8,16 @@ pub returns-in-First : goal.returns-in-First
 unfolding over
 returns-in-First c =
     let a = c.args in
-    c.no_kind.ensures ∙ ap (λ (g : Stage). by_stage g (no_kind a.session.line-1) false true) (sym c.enum_told-1.is.1)
+    c.no_kind.ensures ∙ ap (λ (g : Stage). by_stage g (no_kind a.session.line) false true) (sym c.in-First.is)
 
 pub returns-in-Playing : goal.returns-in-Playing
 unfolding over
 returns-in-Playing c =
     let a = c.args in
-    ap (λ (g : Stage). by_stage g (no_kind a.session.line-1) false true) (sym c.enum_told-in-Playing-1.is.1)
+    ap (λ (g : Stage). by_stage g (no_kind a.session.line) false true) (sym c.in-Playing.is)
 
 pub returns-in-Over : goal.returns-in-Over
 unfolding over
 returns-in-Over c =
     let a = c.args in
-    ap (λ (g : Stage). by_stage g (no_kind a.session.line-1) false true) (sym c.enum_told-in-Over-1.is.1)
+    ap (λ (g : Stage). by_stage g (no_kind a.session.line) false true) (sym c.in-Over.is)

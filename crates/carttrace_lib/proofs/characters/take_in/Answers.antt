@@ -16,5 +16,5 @@ unfolding took into
 returns c =
     let a = c.args in
     rw (ne_eqb _ _ c.if-c-eq10.false)
-    (tells (heard [] (session_with a.session.stage (pushed a.session.line-1 a.c) a.session.cart-1) (buffers a.memory-1.now a.tallies-1.now)) a.out-1.now c.Told-with.ensures
-    (c.session_with.ensures ∙ (λ i. session_with a.session.stage (c.push.ensures i) a.session.cart-1)) refl refl refl)
+    (tells (heard [] (session_with a.session.stage (pushed a.session.line a.c) a.session.cart) (buffers a.memory.now a.tallies.now)) a.out.now c.Told-with.ensures
+    (c.session_with.ensures ∙ (λ i. session_with a.session.stage (c.push.ensures i) a.session.cart)) refl refl refl)

@@ -17,83 +17,83 @@ pub returns-in-SaveRead : goal.returns-in-SaveRead
 unfolding play
 returns-in-SaveRead c =
     let a = c.args in
-    let m = a.memory-1.now in
-    let ts = a.tallies-1.now in
+    let m = a.memory.now in
+    let ts = a.tallies.now in
     let s = tallied a.cart m ts in
-    shows value_line (λ r. r.cart) a.out-1.now (beside replied (save_read c.frame-1.given.0.0) a.cart m ts (λ o. refl) refl c.save_read.ensures) c.show_value.ensures (read-line c.frame-1.given.0.0 s)
-    ∙ ap (λ (f : Frame). shown (play f s) a.out-1.now) (sym c.frame-1.given.1)
+    shows value_line (λ r. r.cart) a.out.now (beside replied (save_read c.in-SaveRead.address) a.cart m ts (λ o. refl) refl c.save_read.ensures) c.show_value.ensures (read-line c.in-SaveRead.address s)
+    ∙ ap (λ (f : Frame). shown (play f s) a.out.now) (sym c.in-SaveRead.is)
 
 pub returns-in-SaveWrite : goal.returns-in-SaveWrite
 unfolding play
 returns-in-SaveWrite c =
     let a = c.args in
-    let s = tallied a.cart a.memory-1.now a.tallies-1.now in
-    shows status_line (λ r. r.cart) a.out-1.now c.save_write.ensures c.show_status.ensures (write-line c.frame-in-SaveWrite-1.is.0.0 c.frame-in-SaveWrite-1.is.0.1.0 s)
-    ∙ ap (λ (f : Frame). shown (play f s) a.out-1.now) (sym c.frame-in-SaveWrite-1.is.1)
+    let s = tallied a.cart a.memory.now a.tallies.now in
+    shows status_line (λ r. r.cart) a.out.now c.save_write.ensures c.show_status.ensures (write-line c.in-SaveWrite.address c.in-SaveWrite.value s)
+    ∙ ap (λ (f : Frame). shown (play f s) a.out.now) (sym c.in-SaveWrite.is)
 
 pub returns-in-EepromRead : goal.returns-in-EepromRead
 unfolding play
 returns-in-EepromRead c =
     let a = c.args in
-    let m = a.memory-1.now in
-    let ts = a.tallies-1.now in
+    let m = a.memory.now in
+    let ts = a.tallies.now in
     let s = tallied a.cart m ts in
-    shows value_line (λ r. r.cart) a.out-1.now (beside replied eeprom_read a.cart m ts (λ o. refl) refl c.eeprom_read.ensures) c.show_value-in-EepromRead.ensures (bit-out-line s)
-    ∙ ap (λ (f : Frame). shown (play f s) a.out-1.now) (sym c.enum_told-1.given.1)
+    shows value_line (λ r. r.cart) a.out.now (beside replied eeprom_read a.cart m ts (λ o. refl) refl c.eeprom_read.ensures) c.show_value-in-EepromRead.ensures (bit-out-line s)
+    ∙ ap (λ (f : Frame). shown (play f s) a.out.now) (sym c.in-EepromRead.is)
 
 pub returns-in-EepromWrite : goal.returns-in-EepromWrite
 unfolding play
 returns-in-EepromWrite c =
     let a = c.args in
-    let s = tallied a.cart a.memory-1.now a.tallies-1.now in
-    shows status_line (λ r. r.cart) a.out-1.now c.eeprom_write.ensures c.show_status-in-EepromWrite.ensures (bit-in-line c.frame-in-EepromWrite-1.is.0.0 s)
-    ∙ ap (λ (f : Frame). shown (play f s) a.out-1.now) (sym c.frame-in-EepromWrite-1.is.1)
+    let s = tallied a.cart a.memory.now a.tallies.now in
+    shows status_line (λ r. r.cart) a.out.now c.eeprom_write.ensures c.show_status-in-EepromWrite.ensures (bit-in-line c.in-EepromWrite.value s)
+    ∙ ap (λ (f : Frame). shown (play f s) a.out.now) (sym c.in-EepromWrite.is)
 
 pub returns-in-BeginDma : goal.returns-in-BeginDma
 unfolding play
 returns-in-BeginDma c =
     let a = c.args in
-    let m = a.memory-1.now in
-    let ts = a.tallies-1.now in
+    let m = a.memory.now in
+    let ts = a.tallies.now in
     let s = tallied a.cart m ts in
-    shows status_line (λ r. r.cart) a.out-1.now (beside replied (eeprom_begin_dma c.frame-in-BeginDma-1.is.0.0) a.cart m ts (λ o. refl) refl (c.eeprom_begin_dma.ensures m)) c.show_status-in-BeginDma.ensures (dma-line c.frame-in-BeginDma-1.is.0.0 s)
-    ∙ ap (λ (f : Frame). shown (play f s) a.out-1.now) (sym c.frame-in-BeginDma-1.is.1)
+    shows status_line (λ r. r.cart) a.out.now (beside replied (eeprom_begin_dma c.in-BeginDma.words) a.cart m ts (λ o. refl) refl (c.eeprom_begin_dma.ensures m)) c.show_status-in-BeginDma.ensures (dma-line c.in-BeginDma.words s)
+    ∙ ap (λ (f : Frame). shown (play f s) a.out.now) (sym c.in-BeginDma.is)
 
 pub returns-in-TakeFlag : goal.returns-in-TakeFlag
 unfolding play
 returns-in-TakeFlag c =
     let a = c.args in
-    let m = a.memory-1.now in
-    let ts = a.tallies-1.now in
+    let m = a.memory.now in
+    let ts = a.tallies.now in
     let s = tallied a.cart m ts in
-    shows value_line (λ r. r.cart) a.out-1.now (beside flag_replied take_save_dirty a.cart m ts (λ o. refl) refl (c.take_save_dirty.ensures m)) c.show_value-in-TakeFlag.ensures (refl)
-    ∙ ap (λ (f : Frame). shown (play f s) a.out-1.now) (sym c.enum_told-in-TakeFlag-1.is.1)
+    shows value_line (λ r. r.cart) a.out.now (beside flag_replied take_save_dirty a.cart m ts (λ o. refl) refl (c.take_save_dirty.ensures m)) c.show_value-in-TakeFlag.ensures (refl)
+    ∙ ap (λ (f : Frame). shown (play f s) a.out.now) (sym c.in-TakeFlag.is)
 
 pub returns-in-ChipState : goal.returns-in-ChipState
 unfolding play
 returns-in-ChipState c =
     let a = c.args in
-    let m = a.memory-1.now in
-    let ts = a.tallies-1.now in
+    let m = a.memory.now in
+    let ts = a.tallies.now in
     let s = tallied a.cart m ts in
     let o = step chip_state [] s in
     let text = line_of o.refusal (eighteen_of o.given) in
     let e = c.chip_state.ensures m in
     let p = c.print_state.ensures in
     let k = c.played_with.ensures ∙ (λ i. played_with a.cart (p i).0) in
-    let b = beside (λ o. (state_answer o.refusal (or_zeros o.given), o.next.memory-1)) chip_state a.cart m ts (λ o. refl) refl (λ i. ((e i).0, (e i).1.memory)) in
+    let b = beside (λ o. (state_answer o.refusal (or_zeros o.given), o.next.memory)) chip_state a.cart m ts (λ o. refl) refl (λ i. ((e i).0, (e i).1.memory)) in
     let q = sym (stretches.apart ts chip_state [] (state a.cart m) refl) in
-    shows state_line (λ r. a.cart) a.out-1.now b (λ i. (k i, (p i).1)) (record-line s)
-    ∙ (λ i. (played_with (e i).1.cart (length text), o.next.memory-1, o.next.tallies-1, into text a.out-1.now))
-    ∙ (λ i. (played_with (q i).next.cart (length text), o.next.memory-1, o.next.tallies-1, into text a.out-1.now))
-    ∙ ap (λ (f : Frame). shown (play f s) a.out-1.now) (sym c.enum_told-in-ChipState-1.is.1)
+    shows state_line (λ r. a.cart) a.out.now b (λ i. (k i, (p i).1)) (record-line s)
+    ∙ (λ i. (played_with (e i).1.cart (length text), o.next.memory, o.next.tallies, into text a.out.now))
+    ∙ (λ i. (played_with (q i).next.cart (length text), o.next.memory, o.next.tallies, into text a.out.now))
+    ∙ ap (λ (f : Frame). shown (play f s) a.out.now) (sym c.in-ChipState.is)
 
 pub returns-in-Bad : goal.returns-in-Bad
 unfolding play
 returns-in-Bad c =
     let a = c.args in
-    let s = tallied a.cart a.memory-1.now a.tallies-1.now in
+    let s = tallied a.cart a.memory.now a.tallies.now in
     let p = c.print_status.ensures in
     let k = c.played_with-in-Bad.ensures ∙ (λ i. played_with a.cart (p i).0) in
-    (λ i. (k i, a.memory-1.now, a.tallies-1.now, (p i).1))
-    ∙ ap (λ (f : Frame). shown (play f s) a.out-1.now) (sym c.enum_told-in-Bad-1.is.1)
+    (λ i. (k i, a.memory.now, a.tallies.now, (p i).1))
+    ∙ ap (λ (f : Frame). shown (play f s) a.out.now) (sym c.in-Bad.is)

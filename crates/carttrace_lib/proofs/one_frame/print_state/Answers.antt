@@ -11,7 +11,7 @@ returns-then-state-ne0 c = rw (ne_eqb _ 0 c.if-state-ne0.true) c.print_status.en
 pub slice_bounds-print_line-end : goal.slice_bounds-print_line-end
 slice_bounds-print_line-end c =
     let s = c in
-    sym (length-take-le 18 s.args.state.bytes-1 (omega (arith, s.requires.bytes_len)))
+    sym (length-take-le 18 s.args.state.bytes (omega (arith, s.requires.bytes_len)))
 
 pub print_line-requires : goal.print_line-requires
 print_line-requires c =

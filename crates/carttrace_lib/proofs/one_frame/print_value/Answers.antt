@@ -12,4 +12,4 @@ returns-then-reply-ne0 c = rw (ne_eqb _ 0 c.if-reply-ne0.true) c.print_status.en
 pub returns : goal.returns
 returns c =
     let a = c.args in
-    rw c.if-reply-ne0.false ((λ i. (c.print_line.ensures.value i, c.print_line.ensures.out_after i)) ∙ ap (λ (l : List ℕ). written l a.out-1.now) (low-digits a.reply.value))
+    rw c.if-reply-ne0.false ((λ i. (c.print_line.ensures.value i, c.print_line.ensures.out_after i)) ∙ ap (λ (l : List ℕ). written l a.out.now) (low-digits a.reply.value))

@@ -6,5 +6,5 @@ pub returns : goal.returns
 returns c =
     let a = c.args in
     let p = c.print_value.ensures in
-    let k = c.played_with.ensures ∙ (λ i. played_with a.reply.cart-1 (p i).0) in
+    let k = c.played_with.ensures ∙ (λ i. played_with a.reply.cart (p i).0) in
     λ i. (k i, (p i).1)

@@ -27,7 +27,7 @@ pub slice_bounds-read_line-start-in-loop-i : goal.slice_bounds-read_line-start-i
 slice_bounds-read_line-start-in-loop-i c = omega (arith, c.loop-i.invariant.place_ok, c.loop-i.invariant.used_ok, c.loop-i.invariant.same_ok, c.loop-i.invariant.room_ok)
 
 pub read_line-item-requires : goal.read_line-item-requires
-read_line-item-requires c = omega (arith, length-take (c.loop-i.i + c.line_length.result - c.loop-i.i) (drop c.loop-i.i c.args.text.now), length-drop c.loop-i.i c.args.text.now, part-long c.loop-i.room-1 c.loop-i.used, c.loop-i-test, c.loop-i.invariant.used_ok, c.loop-i.invariant.same_ok, c.loop-i.invariant.room_ok)
+read_line-item-requires c = omega (arith, length-take (c.loop-i.i + c.line_length.result - c.loop-i.i) (drop c.loop-i.i c.args.text.now), length-drop c.loop-i.i c.args.text.now, part-long c.loop-i.room c.loop-i.used, c.loop-i-test, c.loop-i.invariant.used_ok, c.loop-i.invariant.same_ok, c.loop-i.invariant.room_ok)
 
 pub code_length-used-requires : goal.code_length-used-requires
 code_length-used-requires c = omega (arith, c.read_line-item.ensures.result_in_bounds, length-take (c.loop-i.i + c.line_length.result - c.loop-i.i) (drop c.loop-i.i c.args.text.now), length-drop c.loop-i.i c.args.text.now, c.requires.text_len_bound)

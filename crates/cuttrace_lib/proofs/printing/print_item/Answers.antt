@@ -6,22 +6,22 @@ use Rattle.cuttrace_lib.proofs.printing.print_item.Goals as goal
 pub print_state-requires : goal.print_state-requires
 print_state-requires c =
     let p = c.requires in
-    (p.answer_len ∙ ap item_room c.enum_told-in-ChipState-1.is.1, p.answer_in_bounds)
+    (p.answer_len ∙ ap item_room c.in-ChipState.is, p.answer_in_bounds)
 
 pub returns-in-Bad : goal.returns-in-Bad
 returns-in-Bad c =
     let a = c.args in
     let e = c.print_line.ensures in
-    shows a.out-1.now (item-bad a.answer.now c.enum_told-1.given.1) e.value e.out_after
+    shows a.out.now (item-bad a.answer.now c.in-Bad.is) e.value e.out_after
 
 pub returns-in-ChipState : goal.returns-in-ChipState
 returns-in-ChipState c =
     let a = c.args in
     let e = c.print_state.ensures in
-    shows a.out-1.now (item-state a.answer.now c.enum_told-in-ChipState-1.is.1) e.0 e.1
+    shows a.out.now (item-state a.answer.now c.in-ChipState.is) e.0 e.1
 
 pub returns-in_default : goal.returns-in_default
 returns-in_default c =
     let a = c.args in
     let e = c.print_answer.ensures in
-    shows a.out-1.now (item-other a.item a.answer.now c.in_default.keys3) e.0 e.1
+    shows a.out.now (item-other a.item a.answer.now c.in_default.in_default-own.keys3) e.0 e.1

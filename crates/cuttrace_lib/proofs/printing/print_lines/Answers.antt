@@ -48,7 +48,7 @@ print_item-len-requires c =
     let a = c.args in
     let k = here-fits c.line_length.result c.read_line-item.result b.invariant (omega (arith, c.loop-i-test)) c.line_length.ensures.0 c.read_line-item.ensures.value in
     let l = piece-length b.at (b.at + r.result) r.result a.answers.now refl (omega (arith, r.ensures, k)) ∙ r.ensures in
-    (l, omega (arith, l, k, part-long b.out-1 b.len, out-length b.invariant, b.invariant.len_ok, b.invariant.out_ok, c.loop-i-test))
+    (l, omega (arith, l, k, part-long b.out b.len, out-length b.invariant, b.invariant.len_ok, b.invariant.out_ok, c.loop-i-test))
 
 pub overflow_add-len : goal.overflow_add-len
 overflow_add-len c = let b = c.loop-i in let k = here-fits c.line_length.result c.read_line-item.result b.invariant (omega (arith, c.loop-i-test)) c.line_length.ensures.0 c.read_line-item.ensures.value in let answer = take (b.at + c.item_room.result - b.at) (drop b.at c.args.answers.now) in omega (arith, c.item_room.ensures, k, piece-length b.at (b.at + c.item_room.result) c.item_room.result c.args.answers.now refl (omega (arith, c.item_room.ensures, k)), c.print_item-len.ensures.0, item-short c.read_line-item.result answer, b.invariant.len_ok, b.invariant.out_ok, c.loop-i-test, c.well-formed)
@@ -60,7 +60,7 @@ pub loop-i-smaller : goal.loop-i-smaller
 loop-i-smaller c = omega (arith, c.line_length.ensures.1, part-long c.args.text.now c.loop-i.i, c.loop-i-test)
 
 pub loop-i-preserved : goal.loop-i-preserved
-loop-i-preserved c = print-more c.line_length.result c.item_room.result c.read_line-item.result _ c.print_item-len.new.1.1.0 c.print_item-len.result c.loop-i.invariant (omega (arith, c.loop-i-test)) c.line_length.ensures.0 c.line_length.ensures.1 c.read_line-item.ensures.value c.item_room.ensures c.room-1.given c.print_item-len.ensures
+loop-i-preserved c = print-more c.line_length.result c.item_room.result c.read_line-item.result _ c.print_item-len.new.out.1.1.0 c.print_item-len.result c.loop-i.invariant (omega (arith, c.loop-i-test)) c.line_length.ensures.0 c.line_length.ensures.1 c.read_line-item.ensures.value c.item_room.ensures c.room-1.given c.print_item-len.ensures
 
 pub ending_room-requires : goal.ending_room-requires
 ending_room-requires c = c.requires.memory_bound
@@ -87,7 +87,7 @@ print_ending-requires c =
     let r = c.ending_room in
     let a = c.args in
     let l = piece-length b.at (b.at + r.result) r.result a.answers.now refl (omega (arith, r.ensures, b.invariant.at_ok)) ∙ r.ensures in
-    (l, omega (arith, l, part-long b.out-1 b.len, out-length b.invariant, b.invariant.len_ok, b.invariant.at_ok, b.invariant.out_ok, b.invariant.place_ok))
+    (l, omega (arith, l, part-long b.out b.len, out-length b.invariant, b.invariant.len_ok, b.invariant.at_ok, b.invariant.out_ok, b.invariant.place_ok))
 
 pub overflow_add-result : goal.overflow_add-result
 overflow_add-result c =
@@ -108,4 +108,4 @@ pub returns : goal.returns
 returns c =
     let r = c.ending_room in
     let e = c.print_ending in
-    print-all r.result e.new.1.1.0 e.result c.loop-i.invariant (omega (arith, c.loop-i-test)) r.ensures e.ensures
+    print-all r.result e.new.out.1.1.0 e.result c.loop-i.invariant (omega (arith, c.loop-i-test)) r.ensures e.ensures

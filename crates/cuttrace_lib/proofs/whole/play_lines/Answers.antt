@@ -9,7 +9,7 @@ use Rattle.cuttrace_lib.proofs.Traces.{text-refused, text-accepted, answers-held
 use Rattle.cuttrace_lib.proofs.whole.play_lines.Goals as goal
 
 pub slice_bounds-gbasave_replay-end-3 : goal.slice_bounds-gbasave_replay-end-3
-slice_bounds-gbasave_replay-end-3 c = sym (length-take-le c.put_list-used.result c.put_list-used.new.1.1.0 c.put_list-used.ensures.upper_bound)
+slice_bounds-gbasave_replay-end-3 c = sym (length-take-le c.put_list-used.result c.put_list-used.new.room.1.1.0 c.put_list-used.ensures.upper_bound)
 
 pub slice_bounds-gbasave_replay-end-4 : goal.slice_bounds-gbasave_replay-end-4
 slice_bounds-gbasave_replay-end-4 c = omega (arith, c.memory_size-n.ensures, memory-small c.args.kind, c.requires.in_bounds)
@@ -25,12 +25,12 @@ slice_bounds-gbasave_replay-end-7 c = sym (length-take-le c.memory_size-n.result
 
 pub returns-then-refusal-ne0 : goal.returns-then-refusal-ne0
 returns-then-refusal-ne0 c = let a = c.args in
-    shows a.out-1.now (text-refused a.kind (lines_from [] a.text.now) a.memory-1.now a.scratch-1.now a.answers-1.now _ _ c.memory_size-n.result c.gbasave_replay-refusal.result _ _ _ c.put_image.ensures c.put_list-used.ensures.room_after c.memory_size-n.ensures c.gbasave_replay-refusal.ensures c.if-refusal-ne0.true) c.print_line.ensures.value c.print_line.ensures.out_after
+    shows a.out.now (text-refused a.kind (lines_from [] a.text.now) a.memory.now a.scratch.now a.answers.now _ _ c.memory_size-n.result c.gbasave_replay-refusal.result _ _ _ c.put_image.ensures c.put_list-used.ensures.room_after c.memory_size-n.ensures c.gbasave_replay-refusal.ensures c.if-refusal-ne0.true) c.print_line.ensures.value c.print_line.ensures.out_after
 
 pub print_all-requires : goal.print_all-requires
 print_all-requires c = let a = c.args in let p = c.requires in
-    (p.text_len_bound, (omega (arith, c.list-1.given, p.text_bound.0), (answers-held a.kind (lines_from [] a.text.now) a.memory-1.now a.scratch-1.now a.answers-1.now _ _ c.memory_size-n.result c.gbasave_replay-refusal.result _ _ _ c.put_image.ensures c.put_list-used.ensures.room_after c.memory_size-n.ensures c.gbasave_replay-refusal.ensures c.if-refusal-ne0.false c.answers-1.given (omega (arith, memory-small a.kind, p.text_bound.1.0)), omega (arith, c.answers-1.given, p.text_bound.1.1.1))))
+    (p.text_len_bound, (omega (arith, c.list-1.given, p.text_bound), (answers-held a.kind (lines_from [] a.text.now) a.memory.now a.scratch.now a.answers.now _ _ c.memory_size-n.result c.gbasave_replay-refusal.result _ _ _ c.put_image.ensures c.put_list-used.ensures.room_after c.memory_size-n.ensures c.gbasave_replay-refusal.ensures c.if-refusal-ne0.false c.answers-1.given (omega (arith, memory-small a.kind, p.in_bounds)), omega (arith, c.answers-1.given, p.text_in_bounds))))
 
 pub returns : goal.returns
 returns c = let a = c.args in
-    shows a.out-1.now (text-accepted a.kind (lines_from [] a.text.now) a.memory-1.now a.scratch-1.now a.answers-1.now _ _ c.memory_size-n.result c.gbasave_replay-refusal.result _ _ _ c.put_image.ensures c.put_list-used.ensures.room_after c.memory_size-n.ensures c.gbasave_replay-refusal.ensures c.if-refusal-ne0.false) c.print_all.ensures.0 c.print_all.ensures.1
+    shows a.out.now (text-accepted a.kind (lines_from [] a.text.now) a.memory.now a.scratch.now a.answers.now _ _ c.memory_size-n.result c.gbasave_replay-refusal.result _ _ _ c.put_image.ensures c.put_list-used.ensures.room_after c.memory_size-n.ensures c.gbasave_replay-refusal.ensures c.if-refusal-ne0.false) c.print_all.ensures.0 c.print_all.ensures.1

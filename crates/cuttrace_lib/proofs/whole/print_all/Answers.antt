@@ -29,11 +29,11 @@ slice_bounds-print_lines-start-2 c = omega (arith, c.print_line-n.ensures.value,
 
 pub print_lines-requires : goal.print_lines-requires
 print_lines-requires c = let p = c.requires.text_len_bound_2 in let a = part-long c.args.answers.now c.prelude_room-from.result in
-    (c.requires.text_len_bound, (omega (arith, c.memory_size.ensures, memory-small c.args.kind), (p.0, (omega (arith, a, c.prelude_room-from.ensures, c.memory_size.ensures, p.1.0), omega (arith, a, part-long c.print_line-n.new.0 c.print_line-n.result, c.print_line-n.ensures.value, length-line 0 [], c.out-1.given, p.1.1)))))
+    (c.requires.text_len_bound, (omega (arith, c.memory_size.ensures, memory-small c.args.kind), (p.0, (omega (arith, a, c.prelude_room-from.ensures, c.memory_size.ensures, p.1.0), omega (arith, a, part-long c.print_line-n.new.out c.print_line-n.result, c.print_line-n.ensures.value, length-line 0 [], c.out-1.given, p.1.1)))))
 
 pub overflow_add-result : goal.overflow_add-result
-overflow_add-result c = let o = c.print_line-n in let part = take (length o.new.0 - o.result) (drop o.result o.new.0) in
-    omega (arith, shows-fits (lines_text c.memory_size.result (lines_from [] c.args.text.now) (take (length c.args.answers.now - c.prelude_room-from.result) (drop c.prelude_room-from.result c.args.answers.now))) c.print_lines.new.1.1.1.1.0 part c.print_lines.ensures c.out-2-1.given.0, part-long o.new.0 o.result, o.ensures.value, length-line 0 [], c.out-1.given, c.requires.text_in_bounds, c.well-formed)
+overflow_add-result c = let o = c.print_line-n in let part = take (length o.new.out - o.result) (drop o.result o.new.out) in
+    omega (arith, shows-fits (lines_text c.memory_size.result (lines_from [] c.args.text.now) (take (length c.args.answers.now - c.prelude_room-from.result) (drop c.prelude_room-from.result c.args.answers.now))) c.print_lines.new.out.1.1.1.0 part c.print_lines.ensures c.out-2-1.given.0, part-long o.new.out o.result, o.ensures.value, length-line 0 [], c.out-1.given, c.requires.text_in_bounds, c.well-formed)
 
 pub shape_of-room : goal.shape_of-room
 shape_of-room c = c.room-1.given
@@ -42,4 +42,4 @@ pub shape_of-out : goal.shape_of-out
 shape_of-out c = c.out-2-1.given.1 ∙ c.out-1.given
 
 pub returns : goal.returns
-returns c = all_shown c.args.kind c.args.text.now c.args.answers.now c.args.out.now c.print_line-n.new.0 c.print_lines.new.1.1.1.1.0 c.memory_size.result c.prelude_room-from.result c.print_line-n.result c.print_lines.result c.memory_size.ensures c.prelude_room-from.ensures (omega (arith, c.print_line-n.ensures.value, length-line 0 [], c.requires.text_in_bounds)) (c.print_line-n.ensures.value, c.print_line-n.ensures.out_after) c.print_lines.ensures
+returns c = all_shown c.args.kind c.args.text.now c.args.answers.now c.args.out.now c.print_line-n.new.out c.print_lines.new.out.1.1.1.0 c.memory_size.result c.prelude_room-from.result c.print_line-n.result c.print_lines.result c.memory_size.ensures c.prelude_room-from.ensures (omega (arith, c.print_line-n.ensures.value, length-line 0 [], c.requires.text_in_bounds)) (c.print_line-n.ensures.value, c.print_line-n.ensures.out_after) c.print_lines.ensures

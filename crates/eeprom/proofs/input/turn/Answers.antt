@@ -16,32 +16,32 @@ in-phase p e acc b q h = h ∙ ap (λ (x : EepromPhase). turned_in x e acc b) (s
 pub returns-in-Opcode : goal.returns-in-Opcode
 returns-in-Opcode c =
     let a = c.args in
-    in-phase Opcode a.e a.acc a.b c.enum_told-1.is.1 c.decoded.ensures
+    in-phase Opcode a.e a.acc a.b c.in-Opcode.is c.decoded.ensures
 
 pub returns-in-ReadAddress : goal.returns-in-ReadAddress
 returns-in-ReadAddress c =
     let a = c.args in
-    in-phase ReadAddress a.e a.acc a.b c.enum_told-in-ReadAddress-1.is.1 c.addressed.ensures
+    in-phase ReadAddress a.e a.acc a.b c.in-ReadAddress.is c.addressed.ensures
 
 pub returns-in-WriteAddress : goal.returns-in-WriteAddress
 returns-in-WriteAddress c =
     let a = c.args in
-    in-phase WriteAddress a.e a.acc a.b c.enum_told-in-WriteAddress-1.is.1 c.addressed-in-WriteAddress.ensures
+    in-phase WriteAddress a.e a.acc a.b c.in-WriteAddress.is c.addressed-in-WriteAddress.ensures
 
 pub returns-in-WriteData : goal.returns-in-WriteData
 returns-in-WriteData c =
     let a = c.args in
-    in-phase WriteData a.e a.acc a.b c.enum_told-in-WriteData-1.is.1 c.word_in.ensures
+    in-phase WriteData a.e a.acc a.b c.in-WriteData.is c.word_in.ensures
 
 pub returns-in-ReadStop : goal.returns-in-ReadStop
 returns-in-ReadStop c =
     let a = c.args in
-    in-phase ReadStop a.e a.acc a.b c.enum_told-in-ReadStop-1.is.1 (c.kept.ensures ∙ ap kept c.serial.ensures)
+    in-phase ReadStop a.e a.acc a.b c.in-ReadStop.is (c.kept.ensures ∙ ap kept c.serial.ensures)
 
 pub returns-in-WriteStop : goal.returns-in-WriteStop
 returns-in-WriteStop c =
     let a = c.args in
-    in-phase WriteStop a.e a.acc a.b c.enum_told-in-WriteStop-1.is.1 (c.kept-in-WriteStop.ensures ∙ ap kept c.entered.ensures)
+    in-phase WriteStop a.e a.acc a.b c.in-WriteStop.is (c.kept-in-WriteStop.ensures ∙ ap kept c.entered.ensures)
 
 pub opcode_bit-requires : goal.opcode_bit-requires
 opcode_bit-requires c = (rw (ap (λ (x : Eeprom). x.count) c.ended.ensures) (omega arith), c.requires)
@@ -49,4 +49,4 @@ opcode_bit-requires c = (rw (ap (λ (x : Eeprom). x.count) c.ended.ensures) (ome
 pub returns-in-Reading : goal.returns-in-Reading
 returns-in-Reading c =
     let a = c.args in
-    in-phase Reading a.e a.acc a.b c.enum_told-in-Reading-1.is.1 (c.opcode_bit.ensures ∙ ap (λ (x : Eeprom). opcode_bit x a.b) c.ended.ensures)
+    in-phase Reading a.e a.acc a.b c.in-Reading.is (c.opcode_bit.ensures ∙ ap (λ (x : Eeprom). opcode_bit x a.b) c.ended.ensures)

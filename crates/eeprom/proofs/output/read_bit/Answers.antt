@@ -16,11 +16,11 @@ returns-then-e-lt4 c = rw (granted _ c.is_reading.ensures c.if-not-is_reading.fa
 
 pub returns-then-not-present : goal.returns-then-not-present
 unfolding read_bit
-returns-then-not-present c = let p = c.args.present in rw (granted _ c.is_reading.ensures c.if-not-is_reading.false, le-ltb _ _ c.if-e-lt4.false, not-true p c.if-not-present.true)
+returns-then-not-present c = let p = c.args.present in rw (granted _ c.is_reading.ensures c.if-not-is_reading.false, le-ltb _ _ c.if-e-lt4.false, c.if-not-present.true)
 
 pub bit_of_block-requires : goal.bit_of_block-requires
-bit_of_block-requires c = (omega (arith, c.requires.0), c.requires.1 (not-false c.args.present c.if-not-present.false))
+bit_of_block-requires c = (omega (arith, c.requires.0), c.requires.1 (c.if-not-present.false))
 
 pub returns : goal.returns
 unfolding read_bit
-returns c = let p = c.args.present in c.bit_of_block.ensures ∙ rw (granted _ c.is_reading.ensures c.if-not-is_reading.false, le-ltb _ _ c.if-e-lt4.false, not-false p c.if-not-present.false)
+returns c = let p = c.args.present in c.bit_of_block.ensures ∙ rw (granted _ c.is_reading.ensures c.if-not-is_reading.false, le-ltb _ _ c.if-e-lt4.false, c.if-not-present.false)

@@ -24,14 +24,14 @@ returns-then-is_data c =
 pub returns-then-is_address : goal.returns-then-is_address
 returns-then-is_address c =
     let a = c.args in
-    rw (sym c.is_data.ensures ∙ c.if-is_data.false, sym c.is_Address.ensures ∙ c.if-is_address.true) at (by_tests a.phase a.w)
+    rw (sym c.is_data.ensures ∙ c.if-is_data.false, sym c.is_address.ensures ∙ c.if-is_address.true) at (by_tests a.phase a.w)
 
 pub returns-then-is_opcode : goal.returns-then-is_opcode
 returns-then-is_opcode c =
     let a = c.args in
-    rw (sym c.is_data.ensures ∙ c.if-is_data.false, sym c.is_Address.ensures ∙ c.if-is_address.false, sym c.is_opcode.ensures ∙ c.if-is_opcode.true) at (by_tests a.phase a.w)
+    rw (sym c.is_data.ensures ∙ c.if-is_data.false, sym c.is_address.ensures ∙ c.if-is_address.false, sym c.is_opcode.ensures ∙ c.if-is_opcode.true) at (by_tests a.phase a.w)
 
 pub returns : goal.returns
 returns c =
     let a = c.args in
-    rw (sym c.is_data.ensures ∙ c.if-is_data.false, sym c.is_Address.ensures ∙ c.if-is_address.false, sym c.is_opcode.ensures ∙ c.if-is_opcode.false) at (by_tests a.phase a.w)
+    rw (sym c.is_data.ensures ∙ c.if-is_data.false, sym c.is_address.ensures ∙ c.if-is_address.false, sym c.is_opcode.ensures ∙ c.if-is_opcode.false) at (by_tests a.phase a.w)

@@ -42,10 +42,10 @@ pub overflow_add-result : goal.overflow_add-result
 overflow_add-result c = omega (arith, c.loop-i-test, c.loop-i.invariant)
 
 pub shape_of-out : goal.shape_of-out
-shape_of-out c = length-set c.loop-i.out-1 c.loop-i.end 10 ∙ c.loop-i.invariant.3 ∙ c.put_digits.ensures.out_len_unchanged
+shape_of-out c = length-set c.loop-i.out c.loop-i.end 10 ∙ c.loop-i.invariant.3 ∙ c.put_digits.ensures.out_len_unchanged
 
 pub returns : goal.returns
 returns c =
     let b = c.loop-i in
     let a = c.args in
-    (omega (arith, c.loop-i-test, b.invariant, length-line a.status a.bytes.now), rw b.invariant.4 (put-end a.status a.bytes.now _ b.i b.end (omega (arith, c.loop-i-test, b.invariant)) b.invariant.1 (omega (arith, c.loop-i-test, b.invariant))) ∙ line-once a.status a.bytes.now a.out-1.now _ (omega (arith, c.requires)) c.put_digits.ensures.out_after)
+    record { value = omega (arith, c.loop-i-test, b.invariant, length-line a.status a.bytes.now); out_after = rw b.invariant.4 (put-end a.status a.bytes.now _ b.i b.end (omega (arith, c.loop-i-test, b.invariant)) b.invariant.1 (omega (arith, c.loop-i-test, b.invariant))) ∙ line-once a.status a.bytes.now a.out.now _ (omega (arith, c.requires)) c.put_digits.ensures.out_after }

@@ -7,4 +7,4 @@ pub bounds-out-at-2 : goal.bounds-out-at-2
 bounds-out-at-2 c = simp length-set (omega (arith, c.requires))
 
 pub returns : goal.returns
-returns c = (simp length-set refl, rw (c.character-2.ensures, c.character.ensures))
+returns c = record { out_len_unchanged = simp length-set refl; out_after = rw (c.character-2.ensures, c.character.ensures) }

@@ -12,7 +12,7 @@ use Rattle.matcher.proofs.quiet.quiet_run.Goals as goal
 pub loop-n-init : goal.loop-n-init
 loop-n-init c =
     let a = c.args in
-    (omega arith, (λ h. absurd (h refl)), pairs_first a a.part.now (omega arith) c.if-before-part.false)
+    (omega arith, (λ h. absurd (h refl)), pairs_first a.before a.part.now (omega arith) c.if-before-part.false)
 
 pub returns-then-pair_in : goal.returns-then-pair_in
 returns-then-pair_in c =
@@ -26,7 +26,7 @@ loop-n-preserved c =
     let s = a.part.now in (
       omega arith,
       (λ _. omega arith),
-      pairs-join a s b.n 32 (omega arith) b.invariant.2
+      pairs-join a.before s b.n 32 (omega arith) b.invariant.2
           (sym (window s b.n (b.n + 33 - b.n) (omega arith) (omega arith)) ∙ sym c.pair_in.ensures ∙ c.if-pair_in.false),
     )
 

@@ -6,4 +6,4 @@ use Rattle.matcher.proofs.step.ends_flash512.Goals as goal
 
 pub returns : goal.returns
 unfolding backwards
-returns c = ends (backwards "FLASH512_V") c.args.b c.args.t2 (omega arith) (search rules)
+returns c = ends (backwards "FLASH512_V") c.args.b c.args.l (omega arith) (search rules)

@@ -22,4 +22,4 @@ pub returns : goal.returns
 returns c =
     let a = c.args in
     c.copy-2.ensures
-    ∙ ap (λ (xs : List ℕ). into xs a.s-1.now) (into-front a.output.now _ c.copy.ensures)
+    ∙ ap (λ (xs : List ℕ). into xs a.s.now) (into-front a.output.now _ c.copy.ensures)

@@ -19,7 +19,7 @@ fill_part-n-requires c =
     let b = c.loop-k in
     let to = c.least-to.ensures in
     let from = c.least-from.ensures in
-    let l = length-mid b.memory-1 (b.k * 4096) 4096 (omega arith) in
+    let l = length-mid b.memory (b.k * 4096) 4096 (omega arith) in
     (omega (arith, l), rw (to, from) (omega (arith, l, file-stretch-le b.k s.args.file.now)))
 
 pub overflow_add-changed : goal.overflow_add-changed

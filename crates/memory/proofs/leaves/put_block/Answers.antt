@@ -35,6 +35,6 @@ returns c =
     let a = 8 * b in
     let d = c.word_bytes-bytes.ensures in
     let r = rw d at c.replace_short-c.ensures in
-    let n = replaced-noted (get_or ts (b / 512) 0) (omega (arith, length-mid m a 8 s.requires.block_in_bounds)) r.0 r.1 c.retally.ensures in
+    let n = replaced-noted (get_or ts (b / 512) 0) (omega (arith, length-mid m a 8 s.requires.block_in_bounds)) r.part_after r.replaced c.retally.ensures in
     part-counted m ts a (a + 8) (b / 512) (digits 256 8 w) (omega (arith, length-word w)) s.requires.block_in_bounds (omega arith) (omega (arith, length-word w))
-    (λ i. omega (arith, c.type_inv.tallies i)) n
+    (λ i. omega (arith, c.slice_known-2-1.given i)) n

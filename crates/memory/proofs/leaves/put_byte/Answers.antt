@@ -24,7 +24,7 @@ returns c =
     let ts = s.args.tallies.now in
     let a = s.args.place in
     let v = s.args.value in
-    let t = retallied-set ts m a v s.requires.place_in_bounds (λ i. omega (arith, c.type_inv.tallies i)) in
+    let t = retallied-set ts m a v s.requires.place_in_bounds (λ i. omega (arith, c.slice_known-2-1.given i)) in
     with-count (c.byte_differs-3.ensures ∙ sym (differing-set m a v s.requires.place_in_bounds)) refl
     (ap (λ (t : ℕ). set ts (a / 4096) t)
     (rw (c.byte_differs.ensures, c.byte_differs-2.ensures) at c.retally.ensures) ∙ sym t)

@@ -4,4 +4,4 @@ use Rattle.memory.proofs.parts.erase.Goals as goal
 
 pub returns : goal.returns
 unfolding erased
-returns c = (c.used-n.ensures, c.fill.ensures)
+returns c = record { value = c.used-n.ensures; part_after = c.fill.ensures }

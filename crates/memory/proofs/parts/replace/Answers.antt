@@ -70,6 +70,7 @@ pub returns : goal.returns
 returns c =
     let s = c in
     let b = c.loop-i in
-    let e : length s.args.bytes.now ≡ length b.part-1 = omega arith in
+    let e : length s.args.bytes.now ≡ length b.part = omega arith in
     let r = rw e at c.replace_short-c-2.ensures in
-    below_all b.invariant.1 s.requires.1 (below_on (omega arith) (omega arith) s.requires.1 b.invariant.2 r.0 r.1)
+    let z = below_all b.invariant.1 s.requires.1 (below_on (omega arith) (omega arith) s.requires.1 b.invariant.2 r.part_after r.replaced) in
+    record { part_after = z.0; replaced = z.1 }

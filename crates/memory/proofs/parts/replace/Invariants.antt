@@ -10,7 +10,7 @@ abbrev pub invariant-loop-i : goal.invariant-loop-i
 invariant-loop-i l =
     (l.i ≤ length l.initial.part)
     × (length l.part ≡ length l.initial.part)
-    × Below l.i l.initial.part l.bytes l.part (record { l.changed = l.changed; l.before = l.before; l.after = l.after })
+    × Below l.i l.initial.part l.bytes l.part (record { changed = l.changed; before = l.before; after = l.after })
 
 abbrev pub decreases-loop-i : goal.decreases-loop-i
 decreases-loop-i l = length l.initial.part - l.i

@@ -12,10 +12,7 @@ pub returns-then-changed-eq0 : goal.returns-then-changed-eq0
 returns-then-changed-eq0 c =
     let s = c in
     let d = sym c.differing_short-changed.ensures ∙ c.if-changed-eq0.true in
-    let e = differing-0 s.args.part.now s.args.bytes.now (sym s.requires.1) d in (
-      sym e,
-      record { count = sym d; balance = ap (λ (l : List ℕ). 0 + used l) (sym e); most-before = omega arith; most-after = omega arith },
-    )
+    let e = differing-0 s.args.part.now s.args.bytes.now (sym s.requires.1) d in record { part_after = sym e; replaced = record { count = sym d; balance = ap (λ (l : List ℕ). 0 + used l) (sym e); most-before = omega arith; most-after = omega arith } }
 
 pub returns : goal.returns
 returns c =
@@ -23,12 +20,12 @@ returns c =
     let old = s.args.part.now in
     let new = s.args.bytes.now in
     let b = c.used_short-before.ensures in
-    let a = c.used_short-after.ensures in (
-      c.copy_file.ensures ∙ into-whole new old s.requires.1,
-      record {
+    let a = c.used_short-after.ensures in record {
+      part_after = c.copy_file.ensures ∙ into-whole new old s.requires.1;
+      replaced = record {
         count = c.differing_short-changed.ensures;
         balance = omega arith;
         most-before = omega (arith, used_le old);
         most-after = omega (arith, used_le new);
-      },
-    )
+      };
+    }

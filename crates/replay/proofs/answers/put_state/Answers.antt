@@ -19,8 +19,8 @@ copy-requires c = rw (rest 1 _) (simp (length-drop, length-set) (omega (arith, c
 
 pub shape_of-out : goal.shape_of-out
 shape_of-out c = let a = c.args in
-    let n : length (a.state.refusal ∷ a.state.bytes-1) ≡ length a.out-1.now = omega (arith, c.requires.out_len, c.requires.bytes_len) in
-    ap length (byte-and-copy a.out-1.now a.state.bytes-1 c.copy.new.0 a.state.refusal c.requires.out_len c.requires.bytes_len c.copy.ensures) ∙ n
+    let n : length (a.state.refusal ∷ a.state.bytes) ≡ length a.out.now = omega (arith, c.requires.out_len, c.requires.bytes_len) in
+    ap length (byte-and-copy a.out.now a.state.bytes c.copy.new.s a.state.refusal c.requires.out_len c.requires.bytes_len c.copy.ensures) ∙ n
 
 pub returns : goal.returns
-returns c = byte-and-copy c.args.out.now c.args.state.bytes-1 c.copy.new.0 c.args.state.refusal c.requires.out_len c.requires.bytes_len c.copy.ensures
+returns c = byte-and-copy c.args.out.now c.args.state.bytes c.copy.new.s c.args.state.refusal c.requires.out_len c.requires.bytes_len c.copy.ensures

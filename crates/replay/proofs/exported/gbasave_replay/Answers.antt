@@ -12,20 +12,20 @@ use Rattle.replay.proofs.exported.gbasave_replay.Goals as goal
 pub returns-then-refusal-ne0 : goal.returns-then-refusal-ne0
 returns-then-refusal-ne0 c =
     let a = c.args in
-    refused a.image.now a.part a.list.now a.memory-1.now a.scratch-1.now a.out-1.now c.ask-refusal.result c.ask-refusal.ensures c.if-refusal-ne0.true
+    refused a.image.now a.part a.list.now a.memory.now a.scratch.now a.out.now c.ask-refusal.result c.ask-refusal.ensures c.if-refusal-ne0.true
 
 pub slice_bounds-tallies-end : goal.slice_bounds-tallies-end
 slice_bounds-tallies-end c =
     let a = c.args in
     let w = c.ask-refusal in
-    let m = memory-length a.image.now a.part a.list.now a.memory-1.now a.scratch-1.now a.out-1.now w.result w.ensures c.if-refusal-ne0.false in
+    let m = memory-length a.image.now a.part a.list.now a.memory.now a.scratch.now a.out.now w.result w.ensures c.if-refusal-ne0.false in
     omega (arith, m, memory-small (detect_save_type a.image.now))
 
 pub slice_bounds-open_and_run-end : goal.slice_bounds-open_and_run-end
 slice_bounds-open_and_run-end c =
     let a = c.args in
     let w = c.ask-refusal in
-    let m = memory-length a.image.now a.part a.list.now a.memory-1.now a.scratch-1.now a.out-1.now w.result w.ensures c.if-refusal-ne0.false in
+    let m = memory-length a.image.now a.part a.list.now a.memory.now a.scratch.now a.out.now w.result w.ensures c.if-refusal-ne0.false in
     sym (length-take-le _ c.room-tallies.result (omega (arith, m, memory-small (detect_save_type a.image.now), c.room-tallies.ensures)))
 
 pub open_and_run-requires : goal.open_and_run-requires
@@ -34,15 +34,15 @@ open_and_run-requires c =
     let w = c.ask-refusal in
     let z = c.if-refusal-ne0.false in
     let i = a.image.now in
-    let m = memory-length i a.part a.list.now a.memory-1.now a.scratch-1.now a.out-1.now w.result w.ensures z in
-    let ts = take (length a.memory-1.now / 4096) c.room-tallies.result in
-    let l = length-take-le (length a.memory-1.now / 4096) c.room-tallies.result (omega (arith, m, memory-small (detect_save_type i), c.room-tallies.ensures)) in (
-      opens i a.part a.list.now a.memory-1.now a.scratch-1.now a.out-1.now w.result w.ensures z ts (omega (arith, l, m, whole-stretches (detect_save_type i))),
+    let m = memory-length i a.part a.list.now a.memory.now a.scratch.now a.out.now w.result w.ensures z in
+    let ts = take (length a.memory.now / 4096) c.room-tallies.result in
+    let l = length-take-le (length a.memory.now / 4096) c.room-tallies.result (omega (arith, m, memory-small (detect_save_type i), c.room-tallies.ensures)) in (
+      opens i a.part a.list.now a.memory.now a.scratch.now a.out.now w.result w.ensures z ts (omega (arith, l, m, whole-stretches (detect_save_type i))),
       (
-        no-byte-write i a.part a.list.now a.memory-1.now a.scratch-1.now a.out-1.now w.result w.ensures z,
+        no-byte-write i a.part a.list.now a.memory.now a.scratch.now a.out.now w.result w.ensures z,
         (
-          scratch-holds i a.part a.list.now a.memory-1.now a.scratch-1.now a.out-1.now w.result w.ensures z,
-          out-holds i a.part a.list.now a.memory-1.now a.scratch-1.now a.out-1.now w.result w.ensures z,
+          scratch-holds i a.part a.list.now a.memory.now a.scratch.now a.out.now w.result w.ensures z,
+          out-holds i a.part a.list.now a.memory.now a.scratch.now a.out.now w.result w.ensures z,
         ),
       ),
     )
@@ -51,5 +51,5 @@ pub returns : goal.returns
 returns c =
     let a = c.args in
     let w = c.ask-refusal in
-    accepted a.image.now a.part a.list.now a.memory-1.now a.scratch-1.now a.out-1.now w.result w.ensures c.if-refusal-ne0.false
+    accepted a.image.now a.part a.list.now a.memory.now a.scratch.now a.out.now w.result w.ensures c.if-refusal-ne0.false
     c.open_and_run.ensures (c.fill.ensures ∙ ap (λ (n : ℕ). replicate n 0) c.scratch-1.given)

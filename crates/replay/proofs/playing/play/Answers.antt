@@ -15,141 +15,141 @@ use borrow.Author.Rules.{rules}
 use Rattle.replay.proofs.playing.play.Goals as goal
 
 pub show_value-requires : goal.show_value-requires
-show_value-requires c = c.requires.out_len ∙ ap item_room c.item-1.given.1
+show_value-requires c = c.requires.out_len ∙ ap item_room c.in-SaveRead.is
 
 pub show_status-requires : goal.show_status-requires
-show_status-requires c = c.requires.out_len ∙ ap item_room c.item-in-SaveWrite-1.is.1
+show_status-requires c = c.requires.out_len ∙ ap item_room c.in-SaveWrite.is
 
 pub show_value-requires-in-EepromRead : goal.show_value-requires-in-EepromRead
-show_value-requires-in-EepromRead c = c.requires.out_len ∙ ap item_room c.enum_told-1.given.1
+show_value-requires-in-EepromRead c = c.requires.out_len ∙ ap item_room c.in-EepromRead.is
 
 pub show_status-requires-in-EepromWrite : goal.show_status-requires-in-EepromWrite
-show_status-requires-in-EepromWrite c = c.requires.out_len ∙ ap item_room c.item-in-EepromWrite-1.is.1
+show_status-requires-in-EepromWrite c = c.requires.out_len ∙ ap item_room c.in-EepromWrite.is
 
 pub show_status-requires-in-BeginDma : goal.show_status-requires-in-BeginDma
-show_status-requires-in-BeginDma c = c.requires.out_len ∙ ap item_room c.item-in-BeginDma-1.is.1
+show_status-requires-in-BeginDma c = c.requires.out_len ∙ ap item_room c.in-BeginDma.is
 
 pub show_value-requires-in-TakeFlag : goal.show_value-requires-in-TakeFlag
-show_value-requires-in-TakeFlag c = c.requires.out_len ∙ ap item_room c.enum_told-in-TakeFlag-1.is.1
+show_value-requires-in-TakeFlag c = c.requires.out_len ∙ ap item_room c.in-TakeFlag.is
 
 pub put_state-requires : goal.put_state-requires
-put_state-requires c = (c.requires.out_len ∙ ap item_room c.enum_told-in-ChipState-1.is.1, search rules)
+put_state-requires c = (c.requires.out_len ∙ ap item_room c.in-ChipState.is, search rules)
 
 pub overflow_add-end : goal.overflow_add-end
-overflow_add-end c = record { fits = omega (arith, load-ends c.args.item _ (length c.args.list.now) c.item-in-LoadSave-1.is.1 c.requires.item_in_bounds, c.well-formed) }
+overflow_add-end c = record { fits = omega (arith, load-ends c.args.item _ (length c.args.list.now) c.in-LoadSave.is c.requires.item_in_bounds, c.well-formed) }
 
 pub slice_bounds-load_save-end : goal.slice_bounds-load_save-end
-slice_bounds-load_save-end c = load-ends c.args.item _ (length c.args.list.now) c.item-in-LoadSave-1.is.1 c.requires.item_in_bounds
+slice_bounds-load_save-end c = load-ends c.args.item _ (length c.args.list.now) c.in-LoadSave.is c.requires.item_in_bounds
 
 pub show_status-requires-in-LoadSave : goal.show_status-requires-in-LoadSave
-show_status-requires-in-LoadSave c = c.requires.out_len ∙ ap item_room c.item-in-LoadSave-1.is.1
+show_status-requires-in-LoadSave c = c.requires.out_len ∙ ap item_room c.in-LoadSave.is
 
 pub put_file-requires : goal.put_file-requires
-put_file-requires c = omega (arith, c.requires.out_len, ap item_room c.enum_told-in-SaveData-1.given.1)
+put_file-requires c = omega (arith, c.requires.out_len, ap item_room c.in-SaveData.is)
 
 pub returns-in-SaveRead : goal.returns-in-SaveRead
 unfolding play
 returns-in-SaveRead c = let a = c.args in
-    let ts = a.tallies-1.now in
-    let u = state a.cart a.memory-1.now in
-    let s = tallied a.cart a.memory-1.now ts in
-    shows-value (step (save_read c.item-1.given.0.0) [] u) ts c.save_read.ensures c.show_value.ensures
-    ∙ ap (λ (o : Outcome). left (value_answer o)) (sym (stretches.apart ts (save_read c.item-1.given.0.0) [] u refl))
-    ∙ ap (λ (i : Item). left (play (cut_at a.image.now a.part) i a.list.now s)) (sym c.item-1.given.1)
+    let ts = a.tallies.now in
+    let u = state a.cart a.memory.now in
+    let s = tallied a.cart a.memory.now ts in
+    shows-value (step (save_read c.in-SaveRead.address) [] u) ts c.save_read.ensures c.show_value.ensures
+    ∙ ap (λ (o : Outcome). left (value_answer o)) (sym (stretches.apart ts (save_read c.in-SaveRead.address) [] u refl))
+    ∙ ap (λ (i : Item). left (play (cut_at a.image.now a.part) i a.list.now s)) (sym c.in-SaveRead.is)
 
 pub returns-in-SaveWrite : goal.returns-in-SaveWrite
 unfolding play
 returns-in-SaveWrite c = let a = c.args in
-    let ts = a.tallies-1.now in
-    let u = state a.cart a.memory-1.now in
-    let s = tallied a.cart a.memory-1.now ts in
+    let ts = a.tallies.now in
+    let u = state a.cart a.memory.now in
+    let s = tallied a.cart a.memory.now ts in
     shows-status c.save_write.ensures c.show_status.ensures
-    ∙ ap (λ (i : Item). left (play (cut_at a.image.now a.part) i a.list.now s)) (sym c.item-in-SaveWrite-1.is.1)
+    ∙ ap (λ (i : Item). left (play (cut_at a.image.now a.part) i a.list.now s)) (sym c.in-SaveWrite.is)
 
 pub returns-in-EepromRead : goal.returns-in-EepromRead
 unfolding play
 returns-in-EepromRead c = let a = c.args in
-    let ts = a.tallies-1.now in
-    let u = state a.cart a.memory-1.now in
-    let s = tallied a.cart a.memory-1.now ts in
+    let ts = a.tallies.now in
+    let u = state a.cart a.memory.now in
+    let s = tallied a.cart a.memory.now ts in
     shows-value (step eeprom_read [] u) ts c.eeprom_read.ensures c.show_value-in-EepromRead.ensures
     ∙ ap (λ (o : Outcome). left (value_answer o)) (sym (stretches.apart ts eeprom_read [] u refl))
-    ∙ ap (λ (i : Item). left (play (cut_at a.image.now a.part) i a.list.now s)) (sym c.enum_told-1.given.1)
+    ∙ ap (λ (i : Item). left (play (cut_at a.image.now a.part) i a.list.now s)) (sym c.in-EepromRead.is)
 
 pub returns-in-EepromWrite : goal.returns-in-EepromWrite
 unfolding play
 returns-in-EepromWrite c = let a = c.args in
-    let ts = a.tallies-1.now in
-    let u = state a.cart a.memory-1.now in
-    let s = tallied a.cart a.memory-1.now ts in
+    let ts = a.tallies.now in
+    let u = state a.cart a.memory.now in
+    let s = tallied a.cart a.memory.now ts in
     shows-status c.eeprom_write.ensures c.show_status-in-EepromWrite.ensures
-    ∙ ap (λ (i : Item). left (play (cut_at a.image.now a.part) i a.list.now s)) (sym c.item-in-EepromWrite-1.is.1)
+    ∙ ap (λ (i : Item). left (play (cut_at a.image.now a.part) i a.list.now s)) (sym c.in-EepromWrite.is)
 
 pub returns-in-BeginDma : goal.returns-in-BeginDma
 unfolding play
 returns-in-BeginDma c = let a = c.args in
-    let ts = a.tallies-1.now in
-    let u = state a.cart a.memory-1.now in
-    let s = tallied a.cart a.memory-1.now ts in
-    shows-status (beside ts (c.eeprom_begin_dma.ensures a.memory-1.now)) c.show_status-in-BeginDma.ensures
-    ∙ ap (λ (o : Outcome). left (status_answer o)) (sym (stretches.apart ts (eeprom_begin_dma c.item-in-BeginDma-1.is.0.0) [] u refl))
-    ∙ ap (λ (i : Item). left (play (cut_at a.image.now a.part) i a.list.now s)) (sym c.item-in-BeginDma-1.is.1)
+    let ts = a.tallies.now in
+    let u = state a.cart a.memory.now in
+    let s = tallied a.cart a.memory.now ts in
+    shows-status (beside ts (c.eeprom_begin_dma.ensures a.memory.now)) c.show_status-in-BeginDma.ensures
+    ∙ ap (λ (o : Outcome). left (status_answer o)) (sym (stretches.apart ts (eeprom_begin_dma c.in-BeginDma.words) [] u refl))
+    ∙ ap (λ (i : Item). left (play (cut_at a.image.now a.part) i a.list.now s)) (sym c.in-BeginDma.is)
 
 pub returns-in-TakeFlag : goal.returns-in-TakeFlag
 unfolding play
 returns-in-TakeFlag c = let a = c.args in
-    let ts = a.tallies-1.now in
-    let u = state a.cart a.memory-1.now in
-    let s = tallied a.cart a.memory-1.now ts in
-    shows-flag (step take_save_dirty [] u) ts (c.take_save_dirty.ensures a.memory-1.now) c.show_value-in-TakeFlag.ensures
+    let ts = a.tallies.now in
+    let u = state a.cart a.memory.now in
+    let s = tallied a.cart a.memory.now ts in
+    shows-flag (step take_save_dirty [] u) ts (c.take_save_dirty.ensures a.memory.now) c.show_value-in-TakeFlag.ensures
     ∙ ap (λ (o : Outcome). left (flag_answer o)) (sym (stretches.apart ts take_save_dirty [] u refl))
-    ∙ ap (λ (i : Item). left (play (cut_at a.image.now a.part) i a.list.now s)) (sym c.enum_told-in-TakeFlag-1.is.1)
+    ∙ ap (λ (i : Item). left (play (cut_at a.image.now a.part) i a.list.now s)) (sym c.in-TakeFlag.is)
 
 pub returns-in-ChipState : goal.returns-in-ChipState
 unfolding play
 returns-in-ChipState c = let a = c.args in
-    let ts = a.tallies-1.now in
-    let u = state a.cart a.memory-1.now in
-    let s = tallied a.cart a.memory-1.now ts in
-    shows-state (step chip_state [] u) ts (c.chip_state.ensures a.memory-1.now) c.put_state.ensures
+    let ts = a.tallies.now in
+    let u = state a.cart a.memory.now in
+    let s = tallied a.cart a.memory.now ts in
+    shows-state (step chip_state [] u) ts (c.chip_state.ensures a.memory.now) c.put_state.ensures
     ∙ ap (λ (o : Outcome). left (record_answer o)) (sym (stretches.apart ts chip_state [] u refl))
-    ∙ ap (λ (i : Item). left (play (cut_at a.image.now a.part) i a.list.now s)) (sym c.enum_told-in-ChipState-1.is.1)
+    ∙ ap (λ (i : Item). left (play (cut_at a.image.now a.part) i a.list.now s)) (sym c.in-ChipState.is)
 
 pub returns-in-LoadSave : goal.returns-in-LoadSave
 unfolding play
 returns-in-LoadSave c = let a = c.args in
-    let ts = a.tallies-1.now in
-    let u = state a.cart a.memory-1.now in
-    let s = tallied a.cart a.memory-1.now ts in
+    let ts = a.tallies.now in
+    let u = state a.cart a.memory.now in
+    let s = tallied a.cart a.memory.now ts in
     shows-status c.load_save.ensures c.show_status-in-LoadSave.ensures
-    ∙ ap (λ (f : List ℕ). left (status_answer (step (load_save f) [] s))) (loaded-part c.item-in-LoadSave-1.is.0.0 a.list.now)
-    ∙ ap (λ (i : Item). left (play (cut_at a.image.now a.part) i a.list.now s)) (sym c.item-in-LoadSave-1.is.1)
+    ∙ ap (λ (f : List ℕ). left (status_answer (step (load_save f) [] s))) (loaded-part c.in-LoadSave.n a.list.now)
+    ∙ ap (λ (i : Item). left (play (cut_at a.image.now a.part) i a.list.now s)) (sym c.in-LoadSave.is)
 
 pub returns-in-SaveData : goal.returns-in-SaveData
 unfolding play
 returns-in-SaveData c = let a = c.args in
-    let ts = a.tallies-1.now in
-    let u = state a.cart a.memory-1.now in
-    let s = tallied a.cart a.memory-1.now ts in
+    let ts = a.tallies.now in
+    let u = state a.cart a.memory.now in
+    let s = tallied a.cart a.memory.now ts in
     (λ i. (s, c.put_file.ensures.out_after i))
-    ∙ (λ i. (sym (export-next (replicate (length a.out-1.now - 5) 0) s) i, (file_answer (sym (stretches.apart ts save_data (replicate (length a.out-1.now - 5) 0) u refl) i)).bytes))
-    ∙ ap (λ (n : ℕ). left (file_answer (step save_data (replicate n 0) s))) (file-room a.item-1 _ (length a.out-1.now) c.enum_told-in-SaveData-1.given.1 c.requires.out_len)
-    ∙ ap (λ (i : Item). left (play (cut_at a.image.now a.part) i a.list.now s)) (sym c.enum_told-in-SaveData-1.given.1)
+    ∙ (λ i. (sym (export-next (replicate (length a.out.now - 5) 0) s) i, (file_answer (sym (stretches.apart ts save_data (replicate (length a.out.now - 5) 0) u refl) i)).bytes))
+    ∙ ap (λ (n : ℕ). left (file_answer (step save_data (replicate n 0) s))) (file-room a.item _ (length a.out.now) c.in-SaveData.is c.requires.out_len)
+    ∙ ap (λ (i : Item). left (play (cut_at a.image.now a.part) i a.list.now s)) (sym c.in-SaveData.is)
 
 pub returns-in-Cut : goal.returns-in-Cut
 unfolding play
 returns-in-Cut c = let a = c.args in
-    let ts = a.tallies-1.now in
-    let u = state a.cart a.memory-1.now in
-    let s = tallied a.cart a.memory-1.now ts in
-    (λ i. (c.cut.ensures i, nothing a.out-1.now (c.requires.out_len ∙ ap item_room c.enum_told-in-Cut-1.is.1) i))
-    ∙ ap (λ (i : Item). left (play (cut_at a.image.now a.part) i a.list.now s)) (sym c.enum_told-in-Cut-1.is.1)
+    let ts = a.tallies.now in
+    let u = state a.cart a.memory.now in
+    let s = tallied a.cart a.memory.now ts in
+    (λ i. (c.cut.ensures i, nothing a.out.now (c.requires.out_len ∙ ap item_room c.in-Cut.is) i))
+    ∙ ap (λ (i : Item). left (play (cut_at a.image.now a.part) i a.list.now s)) (sym c.in-Cut.is)
 
 pub returns-in-Bad : goal.returns-in-Bad
 unfolding play
 returns-in-Bad c = let a = c.args in
-    let ts = a.tallies-1.now in
-    let u = state a.cart a.memory-1.now in
-    let s = tallied a.cart a.memory-1.now ts in
-    (λ i. (s, nothing a.out-1.now (c.requires.out_len ∙ ap item_room c.enum_told-in-Bad-1.is.1) i))
-    ∙ ap (λ (i : Item). left (play (cut_at a.image.now a.part) i a.list.now s)) (sym c.enum_told-in-Bad-1.is.1)
+    let ts = a.tallies.now in
+    let u = state a.cart a.memory.now in
+    let s = tallied a.cart a.memory.now ts in
+    (λ i. (s, nothing a.out.now (c.requires.out_len ∙ ap item_room c.in-Bad.is) i))
+    ∙ ap (λ (i : Item). left (play (cut_at a.image.now a.part) i a.list.now s)) (sym c.in-Bad.is)

@@ -19,7 +19,7 @@ use Rattle.replay.proofs.running.run.Goals as goal
 
 pub loop-i-init : goal.loop-i-init
 loop-i-init c = let a = c.args in
-    ran-start a.image.now a.part a.list.now a.memory-1.now a.tallies-1.now a.scratch-1.now a.out-1.now a.fresh c.requires.tallies_value_2 c.requires.tallies_value c.requires.image_value c.requires.memory_in_bounds_2
+    ran-start a.image.now a.part a.list.now a.memory.now a.tallies.now a.scratch.now a.out.now a.fresh c.requires.tallies_value_2 c.requires.tallies_value c.requires.image_value c.requires.memory_in_bounds_2
 
 pub slice_bounds-item_in-count : goal.slice_bounds-item_in-count
 slice_bounds-item_in-count c = c.loop-i.invariant.place_ok
@@ -52,8 +52,8 @@ play-cart-requires c = let b = c.loop-i in
     let l = c.args.list.now in
     let k = has_room b.invariant (omega (arith, c.loop-i-test)) c.item_in-item.result (c.item_in-item.ensures.value ∙ ap item_in (rest b.i l)) in
     let n = c.item_room.result in
-    let s = tallied b.cart b.memory-1 b.tallies-1 in
-    (c.item_in-item.ensures.result_in_bounds.0, (piece-length b.at (b.at + n) n b.out-1 refl (omega (arith, c.item_room.ensures, k, out-length b.invariant)) ∙ c.item_room.ensures, (record-allowed s b.invariant.stands.sound, (b.invariant.stands.sound.memory_ok, omega (arith, b.invariant.memory_ok, b.invariant.scratch_ok, c.requires.memory_in_bounds)))))
+    let s = tallied b.cart b.memory b.tallies in
+    (c.item_in-item.ensures.result_in_bounds.0, (piece-length b.at (b.at + n) n b.out refl (omega (arith, c.item_room.ensures, k, out-length b.invariant)) ∙ c.item_room.ensures, (record-allowed s b.invariant.stands.sound, (b.invariant.stands.sound.memory_ok, omega (arith, b.invariant.memory_ok, b.invariant.scratch_ok, c.requires.memory_in_bounds)))))
 
 pub item_length-i-requires : goal.item_length-i-requires
 item_length-i-requires c = omega (arith, c.item_in-item.ensures.result_in_bounds.0, length_rest c.loop-i.i c.args.list.now, c.well-formed)
@@ -69,14 +69,14 @@ loop-i-preserved c = let b = c.loop-i in
     let a = c.args in
     let l = a.list.now in
     let n = c.item_room.result in
-    let o = c.play-cart.new.1.1.1.1.1.1.1.1.0 in
+    let o = c.play-cart.new.out.1.1.1.1.1.0 in
     let h = c.item_in-item.ensures.value ∙ ap item_in (rest b.i l) in
     let k = has_room b.invariant (omega (arith, c.loop-i-test)) c.item_in-item.result h in
     let e : b.at + n - b.at ≡ n = omega arith in
     goes_on b.invariant (omega (arith, c.loop-i-test)) c.item_in-item.result h n c.item_length-i.result c.item_room.ensures c.item_length-i.ensures
-    (c.play-cart.ensures ∙ ap (λ (w : List ℕ). left (play (cut_at a.image.now a.part) c.item_in-item.result w (tallied b.cart b.memory-1 b.tallies-1))) (rest b.i l))
-    (c.out-1.given.0 ∙ piece-length b.at (b.at + n) n b.out-1 refl (omega (arith, c.item_room.ensures, k, out-length b.invariant)))
-    c.memory-1.given c.tallies-1.given c.scratch-1.given (λ j. take b.at b.out-1 ++ (o ++ drop (e j) (drop b.at b.out-1)))
+    (c.play-cart.ensures ∙ ap (λ (w : List ℕ). left (play (cut_at a.image.now a.part) c.item_in-item.result w (tallied b.cart b.memory b.tallies))) (rest b.i l))
+    (c.out-1.given.0 ∙ piece-length b.at (b.at + n) n b.out refl (omega (arith, c.item_room.ensures, k, out-length b.invariant)))
+    c.memory-1.given c.tallies-1.given c.scratch-1.given (λ j. take b.at b.out ++ (o ++ drop (e j) (drop b.at b.out)))
 
 pub ending_room-requires : goal.ending_room-requires
 ending_room-requires c =
@@ -95,7 +95,7 @@ pub end_with-requires : goal.end_with-requires
 end_with-requires c =
     let b = c.loop-i in
     let r = c.ending_room in
-    piece-length b.at (b.at + r.result) r.result b.out-1 refl (omega (arith, r.ensures, b.invariant.room_ok, out-length b.invariant)) ∙ r.ensures
+    piece-length b.at (b.at + r.result) r.result b.out refl (omega (arith, r.ensures, b.invariant.room_ok, out-length b.invariant)) ∙ r.ensures
 
 pub shape_of-memory : goal.shape_of-memory
 shape_of-memory c = c.loop-i.invariant.memory_ok
@@ -114,8 +114,8 @@ returns c =
     let b = c.loop-i in
     let r = c.ending_room in
     let n = r.result in
-    let o = c.end_with.new.1.1.0 in
+    let o = c.end_with.new.out.1.1.0 in
     let e : b.at + n - b.at ≡ n = omega arith in
     ends b.invariant (omega (arith, c.loop-i-test)) n c.end_with.ensures
-    (c.out-2-1.given.0 ∙ piece-length b.at (b.at + n) n b.out-1 refl (omega (arith, r.ensures, b.invariant.room_ok, out-length b.invariant)))
-    (λ j. take b.at b.out-1 ++ (o ++ drop (e j) (drop b.at b.out-1)))
+    (c.out-2-1.given.0 ∙ piece-length b.at (b.at + n) n b.out refl (omega (arith, r.ensures, b.invariant.room_ok, out-length b.invariant)))
+    (λ j. take b.at b.out ++ (o ++ drop (e j) (drop b.at b.out)))
