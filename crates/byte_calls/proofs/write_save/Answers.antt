@@ -14,11 +14,11 @@ pub apply-changed-requires : goal.apply-changed-requires
 apply-changed-requires c =
     let s = c in
     let a = s.args in
-    let n = length a.memory.now in (
-      omega (arith, s.requires.memory_len, s.requires.tallies_len, whole-stretches a.cart.kind),
-      subst (λ (t : ByteStep). Fits t.store n) (sym c.write_byte-t.ensures)
-          (step_fits a.cart.kind a.cart.chip.flash n a.address a.value s.requires.memory_len),
-    )
+    let n = length a.memory.now in record {
+      tallied = omega (arith, s.requires.memory_len, s.requires.tallies_len, whole-stretches a.cart.kind);
+      fits = subst (λ (t : ByteStep). Fits t.store n) (sym c.write_byte-t.ensures)
+          (step_fits a.cart.kind a.cart.chip.flash n a.address a.value s.requires.memory_len);
+    }
 
 pub returns : goal.returns
 unfolding accepted write_save

@@ -10,14 +10,14 @@ pub returns-then-not-kind_and_part : goal.returns-then-not-kind_and_part
 returns-then-not-kind_and_part c =
     let s = c in
     let r = s.args.bytes.now in
-    (no_part r s.requires (denied _ c.kind_and_part.ensures c.if-not-kind_and_part.true), valid-record r (λ i. omega (arith, c.type_inv.bytes i)))
+    record { value = no_part r s.requires (denied _ c.kind_and_part.ensures c.if-not-kind_and_part.true); valid = valid-record r (λ i. omega (arith, c.type_inv.bytes i)) }
 
 pub returns-then-bytes-gt1 : goal.returns-then-bytes-gt1
 returns-then-bytes-gt1 c =
     let g = c in
     let s = g in
     let r = s.args.bytes.now in
-    (no_flag r s.requires (granted _ g.kind_and_part.ensures g.if-not-kind_and_part.false) c.if-bytes-gt1.true, valid-record r (λ i. omega (arith, g.type_inv.bytes i)))
+    record { value = no_flag r s.requires (granted _ g.kind_and_part.ensures g.if-not-kind_and_part.false) c.if-bytes-gt1.true; valid = valid-record r (λ i. omega (arith, g.type_inv.bytes i)) }
 
 pub returns-then-not-image_length : goal.returns-then-not-image_length
 returns-then-not-image_length c =
@@ -26,7 +26,7 @@ returns-then-not-image_length c =
     let s = g in
     let r = s.args.bytes.now in
     let l = denied _ (c.image_length.ensures ∙ ap image_length (c.low32.ensures ∙ low-four r)) c.if-not-image_length.true in
-    (no_length r s.requires (granted _ g.kind_and_part.ensures g.if-not-kind_and_part.false) f.if-bytes-gt1.false l, valid-record r (λ i. omega (arith, g.type_inv.bytes i)))
+    record { value = no_length r s.requires (granted _ g.kind_and_part.ensures g.if-not-kind_and_part.false) f.if-bytes-gt1.false l; valid = valid-record r (λ i. omega (arith, g.type_inv.bytes i)) }
 
 pub returns : goal.returns
 returns c =
@@ -36,4 +36,4 @@ returns c =
     let s = g in
     let r = s.args.bytes.now in
     let l = granted _ (t.image_length.ensures ∙ ap image_length (t.low32.ensures ∙ low-four r)) t.if-not-image_length.false in
-    (by-chip r s.requires (granted _ g.kind_and_part.ensures g.if-not-kind_and_part.false) f.if-bytes-gt1.false l c.field_questions.ensures, valid-record r (λ i. omega (arith, g.type_inv.bytes i)))
+    record { value = by-chip r s.requires (granted _ g.kind_and_part.ensures g.if-not-kind_and_part.false) f.if-bytes-gt1.false l c.field_questions.ensures; valid = valid-record r (λ i. omega (arith, g.type_inv.bytes i)) }

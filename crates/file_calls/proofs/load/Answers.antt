@@ -9,7 +9,7 @@ pub apply-changed-requires : goal.apply-changed-requires
 apply-changed-requires c =
     let s = c in
     let kind = s.args.cart.kind in
-    (omega (arith, s.requires.memory_len, s.requires.tallies_len, whole-stretches kind), omega (arith, s.requires.memory_len, memory-small kind))
+    record { tallied = omega (arith, s.requires.memory_len, s.requires.tallies_len, whole-stretches kind); fits = omega (arith, s.requires.memory_len, memory-small kind) }
 
 pub returns : goal.returns
 unfolding accepted load

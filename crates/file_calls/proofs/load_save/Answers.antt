@@ -22,7 +22,7 @@ load-requires c =
     let a = c.args in
     let d = c.store_door-refusal in
     let y = store-door-yes a.cart (length a.memory.now) (length a.tallies.now) d.result d.ensures c.if-refusal-ne0.false in
-    (y.1, y.2)
+    record { memory_len = y.1; tallies_len = y.2 }
 
 pub returns : goal.returns
 unfolding questions

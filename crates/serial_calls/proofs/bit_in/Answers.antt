@@ -26,11 +26,11 @@ apply-changed-requires c =
     let a = s.args in
     let n = length a.memory.now in
     let b = allowed-bounds a.cart s.requires.0 in
-    let size = s.requires.2 ∙ eeprom-size a.cart.kind s.requires.1 in (
-      omega (arith, s.requires.2, s.requires.3, whole-stretches a.cart.kind),
-      subst (λ (t : EepromStep). Fits t.store n) (sym c.write_bit-t.ensures)
-          (write-fits n a.cart.chip.eeprom (a.value % 2) (omega (arith, b.block_ok))),
-    )
+    let size = s.requires.2 ∙ eeprom-size a.cart.kind s.requires.1 in record {
+      tallied = omega (arith, s.requires.2, s.requires.3, whole-stretches a.cart.kind);
+      fits = subst (λ (t : EepromStep). Fits t.store n) (sym c.write_bit-t.ensures)
+          (write-fits n a.cart.chip.eeprom (a.value % 2) (omega (arith, b.block_ok)));
+    }
 
 pub returns : goal.returns
 unfolding accepted bit_in
