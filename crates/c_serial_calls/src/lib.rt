@@ -3,6 +3,7 @@
 // leaves it out of line and the quick way pays nothing for it.
 
 #![tactic(auto)]
+
 ghost use Rattle.std.specs.Prelude.{◌≡◌, List, [], ℕ, ◌<◌, length};
 ghost use Rattle.memory.specs.Memory.{stored, with_count, stores, Tallied, Fits};
 ghost use Rattle.eeprom.specs.Eeprom.{turned};

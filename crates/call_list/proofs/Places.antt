@@ -56,8 +56,8 @@ item-fits l h = ((stands-in l h).0, takes-some (item_in l))
 
 -- what the code says of an item that it found in bytes
 pub decoded : (l : List ℕ) (i : Item) → 0 < length l → ((k : ℕ) → get_or l k 0 < 256) → i ≡ item_in l
-    → (i ≡ item_in l) × ((item_length i ≤ length l) × (item_room i ≤ 4294967300))
-decoded l i h b e = (e, rw e ((stands-in l h).0, (stands-in l h).1 (omega (arith, b 1, b 2, b 3, b 4))))
+    → (item_length i ≤ length l) × (item_room i ≤ 4294967300)
+decoded l i h b e = rw e ((stands-in l h).0, (stands-in l h).1 (omega (arith, b 1, b 2, b 3, b 4)))
 
 passed : (k : ℕ) (l : List ℕ) → items k l ≡ items 0 (drop k l)
 unfolding items

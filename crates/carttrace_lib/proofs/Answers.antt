@@ -35,15 +35,15 @@ low-digits v =
 status-line : (qs : List Question) (d : List ℕ) (s t : State) → let o = guarded qs d s (counted s (outcome [] t d)) in status_line (reply_of o) ≡ line_of o.refusal o.given
 status-line qs d s t = cases (eqb (asked qs) 0) (λ e. rw e) (λ e. rw e)
 
-value_line : (qs : List Question) (d : List ℕ) (s t : State) (v : ℕ) → let o = guarded qs d s (counted s (outcome (v ∷ []) t d)) in value_line (reply_of o) ≡ line_of o.refusal o.given
-value_line qs d s t v = cases (eqb (asked qs) 0) (λ e. rw e) (λ e. rw (e, e))
+value_line_lem : (qs : List Question) (d : List ℕ) (s t : State) (v : ℕ) → let o = guarded qs d s (counted s (outcome (v ∷ []) t d)) in value_line (reply_of o) ≡ line_of o.refusal o.given
+value_line_lem qs d s t v = cases (eqb (asked qs) 0) (λ e. rw e) (λ e. rw (e, e))
 
 state-line : (qs : List Question) (d : List ℕ) (s t : State) (b : ℕ) (bs : List ℕ) → let o = guarded qs d s (counted s (outcome (b ∷ bs) t d)) in state_line (state_answer o.refusal (or_zeros o.given)) ≡ line_of o.refusal (eighteen_of o.given)
 state-line qs d s t b bs = cases (eqb (asked qs) 0) (λ e. rw e) (λ e. rw (e, e))
 
 pub read-line : (a : ℕ) (s : State) → let o = step (save_read a) [] s in value_line (reply_of o) ≡ line_of o.refusal o.given
 unfolding step accepted
-read-line a s = value_line (questions (save_read a) [] s) [] s s _
+read-line a s = value_line_lem (questions (save_read a) [] s) [] s s _
 
 pub write-line : (a v : ℕ) (s : State) → let o = step (save_write a v) [] s in status_line (reply_of o) ≡ line_of o.refusal o.given
 unfolding step accepted
@@ -59,7 +59,7 @@ bit-in-line v s = status-line (questions (eeprom_write v) [] s) [] s _
 
 pub bit-out-line : (s : State) → let o = step eeprom_read [] s in value_line (reply_of o) ≡ line_of o.refusal o.given
 unfolding step accepted
-bit-out-line s = value_line (questions eeprom_read [] s) [] s _ _
+bit-out-line s = value_line_lem (questions eeprom_read [] s) [] s _ _
 
 pub record-line : (s : State) → let o = step chip_state [] s in state_line (state_answer o.refusal (or_zeros o.given)) ≡ line_of o.refusal (eighteen_of o.given)
 unfolding step accepted state_bytes chip_bytes

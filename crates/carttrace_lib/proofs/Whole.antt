@@ -123,11 +123,11 @@ front-state kind s m k =
     λ i. tallied s.cart (a i) (b i)
 
 -- so a law of the lines that follow holds of what was put there
-from_front : (input : List ℕ) (kind : SaveType) (s : State) (m : Buffers) → let b = to_front kind s m in
+from_front_lem : (input : List ℕ) (kind : SaveType) (s : State) (m : Buffers) → let b = to_front kind s m in
     let text = printed_by input (session_with Playing empty_line s.cart) b in
     let t = from_front s.cart b in
     Right s → (Right t → text ≡ play_all (lines_from [] input) t) → text ≡ play_all (lines_from [] input) s
-from_front input kind s m k law =
+from_front_lem input kind s m k law =
     let f = front-state kind s m k in
     law (rw f k) ∙ ap (play_all (lines_from [] input)) f
 
@@ -148,7 +148,7 @@ playing (c ∷ input) line cart m k =
     let p = play (frame line) s in
     rw (took-end c (session_with Playing l cart) m e, e)
     (ap (λ (g : Frame). (play g s).text ++ printed_by input (session_with Playing empty_line (play g s).next.cart) (to_front cart.kind (play g s).next m)) (frame-said line)
-    ∙ ap (λ (r : List ℕ). p.text ++ r) (from_front input cart.kind p.next m (right-play (frame line) s k) (playing input [] p.next.cart (to_front cart.kind p.next m)))))
+    ∙ ap (λ (r : List ℕ). p.text ++ r) (from_front_lem input cart.kind p.next m (right-play (frame line) s k) (playing input [] p.next.cart (to_front cart.kind p.next m)))))
     (λ e. rw (took-char c (session_with Playing l cart) m e, e) (ap (λ (q : Line). printed_by input (session_with Playing q cart) m) (push-more empty_line line c) ∙ playing input (line ++ (c ∷ [])) cart m k))
 
 -- at the end of line 1, and what is printed after it
@@ -158,7 +158,7 @@ unfolding begun pushed_all
 first-end NoKind input s m = rw (over-silent input empty_line s.cart m) (append-nil (line_of 0xff []))
 first-end (Fresh kind) input s m =
     let t = fresh_kind kind in
-    ap (λ (r : List ℕ). line_of 0 [] ++ r) (from_front input kind t m (right-kind kind) (playing input [] t.cart (to_front kind t m)))
+    ap (λ (r : List ℕ). line_of 0 [] ++ r) (from_front_lem input kind t m (right-kind kind) (playing input [] t.cart (to_front kind t m)))
 
 first-last : (f : FirstLine) (s : Session) (m : Buffers) → (begun f s m).text ≡ play_from f []
 unfolding begun play_all

@@ -97,14 +97,14 @@ whole_code (some bytes) e =
     (λ t. rw t (refl, sym (eqb-true (item_length (item_in bytes)) (length bytes) t)))
     (λ t. never (sym (rw t at e)))
 
-line_code : (line : List ℕ) → is_item (line_item line) ≡ true → (item_in (line_code line) ≡ line_item line) × (length (line_code line) ≡ item_length (line_item line))
+line_code_lem : (line : List ℕ) → is_item (line_item line) ≡ true → (item_in (line_code line) ≡ line_item line) × (length (line_code line) ≡ item_length (line_item line))
 unfolding line_code line_item
-line_code line e = rw e (whole_code (unhex line) e)
+line_code_lem line e = rw e (whole_code (unhex line) e)
 
 line-items : (line rest : List ℕ) → is_item (line_item line) ≡ true
     → items 0 (line_code line ++ rest) ≡ (record { item = line_item line; bytes = line_code line ++ rest } ∷ items 0 rest)
 line-items line rest e =
-    let k = line_code line e in
+    let k = line_code_lem line e in
     let t : is_item (item_in (line_code line)) ≡ true = ap is_item k.0 ∙ e in
     code_items (line_code line) rest t (k.1 ∙ ap item_length (sym k.0))
     ∙ (λ j. record { item = k.0 j; bytes = line_code line ++ rest } ∷ items 0 rest)

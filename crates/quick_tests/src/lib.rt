@@ -3,6 +3,7 @@
 // one at a time, since a wider load would stall.
 
 #![tactic(auto)]
+
 ghost use Rattle.std.specs.Prelude.{◌≡◌, Bool, true, ◌≤◌, length, get_or};
 ghost use Rattle.eeprom.specs.Eeprom.{width_allowed};
 ghost use Rattle.c_record.specs.RecordBytes.{record_size, is_record, Valid};

@@ -38,10 +38,7 @@ apply-requires c =
     let a = c.args in
     let n = length a.memory.now in
     let k = c.kind_in-kind.result in
-    let e = c.if-memory-memory_size.false ∙ c.memory_size.ensures in (
-      omega (arith, e, c.if-tallies-memory.false, whole-stretches k),
-      subst (λ (t : ByteStep). Fits t.store n) (sym c.write_byte-t.ensures) (step_fits k _ n a.address a.value e),
-    )
+    let e = c.if-memory-memory_size.false ∙ c.memory_size.ensures in record { tallied = omega (arith, e, c.if-tallies-memory.false, whole-stretches k); fits = subst (λ (t : ByteStep). Fits t.store n) (sym c.write_byte-t.ensures) (step_fits k _ n a.address a.value e) }
 
 pub returns-then-stores : goal.returns-then-stores
 returns-then-stores c =

@@ -50,7 +50,7 @@ pub load_valid-requires : goal.load_valid-requires
 load_valid-requires c =
     let i = c.is_record.ensures in
     let k = c.kind_in-kind.ensures in
-    ((i.valid (granted _ i.value c.if-not-is_record.false), c.if-memory-memory_size.false ∙ c.memory_size.ensures ∙ ap memory_size k), c.if-tallies-tally_count.false ∙ c.tally_count.ensures ∙ ap tally_count k)
+    record { valid = (i.valid (granted _ i.value c.if-not-is_record.false), c.if-memory-memory_size.false ∙ c.memory_size.ensures ∙ ap memory_size k); tallies_len = c.if-tallies-tally_count.false ∙ c.tally_count.ensures ∙ ap tally_count k }
 
 pub overflow_cast-kept : goal.overflow_cast-kept
 overflow_cast-kept c =

@@ -22,7 +22,7 @@ pub apply-requires : goal.apply-requires
 apply-requires c =
     let s = c in
     let kind = (cart_of s.args.cart.now).kind in
-    (omega (arith, s.requires.valid.1, s.requires.tallies_len, whole-stretches kind), omega (arith, s.requires.valid.1, memory-small kind))
+    record { tallied = omega (arith, s.requires.valid.1, s.requires.tallies_len, whole-stretches kind); fits = omega (arith, s.requires.valid.1, memory-small kind) }
 
 pub returns : goal.returns
 returns c =

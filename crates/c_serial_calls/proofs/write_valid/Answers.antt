@@ -44,10 +44,7 @@ turn_in-requires c =
     let b = allowed-bounds (cart_of s.args.cart.now) s.requires.allowed in
     let k = c.kind_in-kind in
     let n = c.if-memory-memory_size.false ∙ c.memory_size.ensures in
-    let z = n ∙ ap memory_size k.ensures ∙ eeprom-size (cart_of s.args.cart.now).kind (granted _ (c.uses_eeprom.ensures ∙ ap uses_eeprom k.ensures) c.if-not-uses_eeprom.false) in (
-      (omega arith, turned-fits _ _ _ _ (omega (arith, b.block_ok, z, ap (λ (e : Eeprom). e.block) c.eeprom_in-e.ensures))),
-      omega (arith, n, c.if-tallies-tally_count.false ∙ c.tally_count.ensures, whole-stretches k.result),
-    )
+    let z = n ∙ ap memory_size k.ensures ∙ eeprom-size (cart_of s.args.cart.now).kind (granted _ (c.uses_eeprom.ensures ∙ ap uses_eeprom k.ensures) c.if-not-uses_eeprom.false) in record { b_bound = (omega arith, turned-fits _ _ _ _ (omega (arith, b.block_ok, z, ap (λ (e : Eeprom). e.block) c.eeprom_in-e.ensures))); tallied = omega (arith, n, c.if-tallies-tally_count.false ∙ c.tally_count.ensures, whole-stretches k.result) }
 
 pub returns-in-More : goal.returns-in-More
 returns-in-More c =

@@ -22,7 +22,7 @@ pub returns-then-n-eq0 : goal.returns-then-n-eq0
 returns-then-n-eq0 c = omega (arith, c.loop-len.invariant.0, c.loop-len.invariant.1)
 
 pub overflow_add-len : goal.overflow_add-len
-overflow_add-len c = omega (arith, c.read_piece-n.ensures, part-long c.loop-len.text c.loop-len.len, c.loop-len-test, c.loop-len.invariant.1, c.well-formed)
+overflow_add-len c = omega (arith, c.read_piece-n.ensures, part-long c.loop-len.text c.loop-len.len, c.loop-len-test, c.loop-len.invariant.1, c.well_formed)
 
 pub slice_bounds-settled-end : goal.slice_bounds-settled-end
 slice_bounds-settled-end c = omega (arith, c.read_piece-n.ensures, part-long c.loop-len.text c.loop-len.len, c.loop-len-test, c.loop-len.invariant.1, c.text-1.given.1)

@@ -25,11 +25,11 @@ pub surveyed-s-requires : goal.surveyed-s-requires
 surveyed-s-requires c = omega (arith, c.item_in-item.ensures.result_in_bounds.1)
 
 pub item_length-i-requires : goal.item_length-i-requires
-item_length-i-requires c = omega (arith, c.item_in-item.ensures.result_in_bounds.0, length_rest c.loop-i.i c.args.list.now, c.well-formed)
+item_length-i-requires c = omega (arith, c.item_in-item.ensures.result_in_bounds.0, length_rest c.loop-i.i c.args.list.now, c.well_formed)
 
 pub overflow_add-i : goal.overflow_add-i
 overflow_add-i c =
-    omega (arith, c.item_length-i.ensures, c.item_in-item.ensures.result_in_bounds.0, length_rest c.loop-i.i c.args.list.now, c.loop-i-test, c.well-formed)
+    omega (arith, c.item_length-i.ensures, c.item_in-item.ensures.result_in_bounds.0, length_rest c.loop-i.i c.args.list.now, c.loop-i-test, c.well_formed)
 
 pub loop-i-smaller : goal.loop-i-smaller
 loop-i-smaller c = omega (arith, c.item_length-i.ensures, takes-some c.item_in-item.result, c.loop-i-test)

@@ -39,7 +39,7 @@ returns-in-Fresh c =
     let a = c.args in
     let m = buffers a.memory.now a.tallies.now in
     let kind = c.in-Fresh.kind in
-    tells (begun (Fresh kind) a.session m) a.out.now c.Told-with.ensures
+    tells (begun (Fresh kind) a.session m) a.out.now c.told_with.ensures
     (c.session_with.ensures ∙ (λ i. session_with Playing (c.empty_line.ensures i) (c.fresh_cart.ensures i)))
     c.print_status.ensures
     (new-front erased a.memory.now n (omega (arith, n, memory-small kind, g.in_bounds)) c.blank.ensures.memory_after)

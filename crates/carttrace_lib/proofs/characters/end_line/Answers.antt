@@ -28,5 +28,5 @@ unfolding line_ended into
 returns-in-Over c =
     let a = c.args in
     let m = buffers a.memory.now a.tallies.now in
-    tells (heard [] a.session m) a.out.now c.Told-with.ensures refl refl refl refl
+    tells (heard [] a.session m) a.out.now c.told_with.ensures refl refl refl refl
     ∙ ap (λ (g : Stage). told (by_stage g (begun (first_in a.session.line) a.session m) (continued a.session m) (heard [] a.session m)) a.out.now) (sym c.in-Over.is)

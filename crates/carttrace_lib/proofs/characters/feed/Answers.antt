@@ -25,10 +25,7 @@ take_in-t-requires c =
     let b = c.loop-i in
     let f = b.invariant in
     let p = c.requires in
-    let l = length-drop b.len b.out in (
-      omega (arith, f.memory_ok, p.in_bounds),
-      (omega (arith, f.tallies_ok, p.in_bounds_2), rw (rest b.len b.out) (omega (arith, l, f.len_ok, f.place_ok, f.room_ok, out-length f, c.loop-i-test))),
-    )
+    let l = length-drop b.len b.out in record { in_bounds = omega (arith, f.memory_ok, p.in_bounds); in_bounds_2 = omega (arith, f.tallies_ok, p.in_bounds_2); longest_line_in_bounds = rw (rest b.len b.out) (omega (arith, l, f.len_ok, f.place_ok, f.room_ok, out-length f, c.loop-i-test)) }
 
 pub overflow_add-len : goal.overflow_add-len
 overflow_add-len c =
@@ -36,10 +33,10 @@ overflow_add-len c =
     let x = get_or c.args.input.now b.i 0 in
     let m = buffers b.memory b.tallies in
     let n : c.take_in-t.result.len ≡ length (took b.s x m).text = λ i. (c.take_in-t.ensures i).0.len in
-    omega (arith, n, took-short b.s x m, b.invariant.len_ok, c.loop-i-test, b.invariant.room_ok, c.well-formed)
+    omega (arith, n, took-short b.s x m, b.invariant.len_ok, c.loop-i-test, b.invariant.room_ok, c.well_formed)
 
 pub overflow_add-i : goal.overflow_add-i
-overflow_add-i c = omega (arith, c.loop-i-test, c.well-formed)
+overflow_add-i c = omega (arith, c.loop-i-test, c.well_formed)
 
 pub loop-i-smaller : goal.loop-i-smaller
 loop-i-smaller c = omega (arith, c.loop-i-test)
@@ -59,5 +56,5 @@ shape_of-out c = out-length c.loop-i.invariant
 pub returns : goal.returns
 returns c =
     let b = c.loop-i.invariant in
-    let n : c.Told-with.result.len ≡ c.loop-i.len = λ i. (c.Told-with.ensures i).len in
-    (fed-all b (omega (arith, c.loop-i-test)) c.Told-with.ensures, omega (arith, n, b.len_ok, b.place_ok, b.room_ok))
+    let n : c.told_with.result.len ≡ c.loop-i.len = λ i. (c.told_with.ensures i).len in
+    record { out_after = fed-all b (omega (arith, c.loop-i-test)) c.told_with.ensures; len_in_bounds = omega (arith, n, b.len_ok, b.place_ok, b.room_ok) }

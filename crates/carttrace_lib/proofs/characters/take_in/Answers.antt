@@ -16,5 +16,5 @@ unfolding took into
 returns c =
     let a = c.args in
     rw (ne_eqb _ _ c.if-c-eq10.false)
-    (tells (heard [] (session_with a.session.stage (pushed a.session.line a.c) a.session.cart) (buffers a.memory.now a.tallies.now)) a.out.now c.Told-with.ensures
+    (tells (heard [] (session_with a.session.stage (pushed a.session.line a.c) a.session.cart) (buffers a.memory.now a.tallies.now)) a.out.now c.told_with.ensures
     (c.session_with.ensures ∙ (λ i. session_with a.session.stage (c.push.ensures i) a.session.cart)) refl refl refl)

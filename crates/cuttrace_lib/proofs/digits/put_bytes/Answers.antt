@@ -13,16 +13,16 @@ pub loop-i-init : goal.loop-i-init
 loop-i-init c = (omega arith, omega (arith, c.if-line-ne0.false), c.requires, refl, joined-none _)
 
 pub overflow_mul-i : goal.overflow_mul-i
-overflow_mul-i c = omega (arith, c.loop-i-test, c.loop-i.invariant, c.well-formed)
+overflow_mul-i c = omega (arith, c.loop-i-test, c.loop-i.invariant, c.well_formed)
 
 pub bounds-line-i : goal.bounds-line-i
 bounds-line-i c = omega (arith, c.loop-i-test, c.loop-i.invariant)
 
 pub overflow_mul-i-in-loop-i : goal.overflow_mul-i-in-loop-i
-overflow_mul-i-in-loop-i c = omega (arith, c.loop-i-test, c.loop-i.invariant, c.well-formed)
+overflow_mul-i-in-loop-i c = omega (arith, c.loop-i-test, c.loop-i.invariant, c.well_formed)
 
 pub overflow_add-i : goal.overflow_add-i
-overflow_add-i c = omega (arith, c.loop-i-test, c.loop-i.invariant, c.well-formed)
+overflow_add-i c = omega (arith, c.loop-i-test, c.loop-i.invariant, c.well_formed)
 
 pub bounds-line-i-in-loop-i : goal.bounds-line-i-in-loop-i
 bounds-line-i-in-loop-i c = omega (arith, c.loop-i-test, c.loop-i.invariant)
@@ -40,7 +40,7 @@ pub bounds-room-i : goal.bounds-room-i
 bounds-room-i c = omega (arith, c.loop-i-test, c.loop-i.invariant)
 
 pub overflow_add-i-in-loop-i : goal.overflow_add-i-in-loop-i
-overflow_add-i-in-loop-i c = omega (arith, c.loop-i-test, c.loop-i.invariant, c.well-formed)
+overflow_add-i-in-loop-i c = omega (arith, c.loop-i-test, c.loop-i.invariant, c.well_formed)
 
 pub loop-i-smaller : goal.loop-i-smaller
 loop-i-smaller c = omega (arith, c.loop-i-test)

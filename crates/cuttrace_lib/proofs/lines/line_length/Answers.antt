@@ -17,7 +17,7 @@ pub returns-then-text-i-eq10 : goal.returns-then-text-i-eq10
 returns-then-text-i-eq10 c = (length_found c.args.text.now c.loop-i.i _ (omega (arith, c.loop-i-test)) refl c.if-text-i-eq10.true c.loop-i.invariant.1, c.loop-i.invariant.0)
 
 pub overflow_add-i : goal.overflow_add-i
-overflow_add-i c = omega (arith, c.loop-i-test, c.well-formed)
+overflow_add-i c = omega (arith, c.loop-i-test, c.well_formed)
 
 pub loop-i-smaller : goal.loop-i-smaller
 loop-i-smaller c = omega (arith, c.loop-i-test)

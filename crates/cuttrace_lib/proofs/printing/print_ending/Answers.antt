@@ -31,7 +31,7 @@ pub overflow_add-result : goal.overflow_add-result
 overflow_add-result c =
     let s = c in
     let a = s.args in
-    omega (arith, c.print_file-n.ensures.0, file-fits a.memory a.ending.now s.requires.ending_len, c.print_state.ensures.0, state-short (take (length a.ending.now - (5 + a.memory)) (drop (5 + a.memory) a.ending.now)), s.requires, s.well-formed)
+    omega (arith, c.print_file-n.ensures.0, file-fits a.memory a.ending.now s.requires.ending_len, c.print_state.ensures.0, state-short (take (length a.ending.now - (5 + a.memory)) (drop (5 + a.memory) a.ending.now)), s.requires, s.well_formed)
 
 pub returns : goal.returns
 returns c = ending-shown c.args.memory c.args.ending.now c.args.out.now c.print_file-n.new.out.1.0 c.print_state.new.out.1.0 c.print_file-n.result c.print_state.result c.requires.ending_len (omega (arith, c.print_file-n.ensures.0, file-fits c.args.memory c.args.ending.now c.requires.ending_len, c.requires)) c.print_file-n.ensures c.print_state.ensures

@@ -27,10 +27,10 @@ pub read_line-item-requires : goal.read_line-item-requires
 read_line-item-requires c = omega (arith, length-take (c.loop-i.i + c.line_length.result - c.loop-i.i) (drop c.loop-i.i c.args.text.now), length-drop c.loop-i.i c.args.text.now, c.loop-i.invariant.same_ok, c.loop-i.invariant.room_ok)
 
 pub item_room-requires : goal.item_room-requires
-item_room-requires c = omega (arith, here-fits c.line_length.result c.read_line-item.result c.loop-i.invariant (omega (arith, c.loop-i-test)) c.line_length.ensures.0 c.read_line-item.ensures.value, c.well-formed)
+item_room-requires c = omega (arith, here-fits c.line_length.result c.read_line-item.result c.loop-i.invariant (omega (arith, c.loop-i-test)) c.line_length.ensures.0 c.read_line-item.ensures.value, c.well_formed)
 
 pub overflow_add-next : goal.overflow_add-next
-overflow_add-next c = omega (arith, c.item_room.ensures, here-fits c.line_length.result c.read_line-item.result c.loop-i.invariant (omega (arith, c.loop-i-test)) c.line_length.ensures.0 c.read_line-item.ensures.value, c.well-formed)
+overflow_add-next c = omega (arith, c.item_room.ensures, here-fits c.line_length.result c.read_line-item.result c.loop-i.invariant (omega (arith, c.loop-i-test)) c.line_length.ensures.0 c.read_line-item.ensures.value, c.well_formed)
 
 pub slice_bounds-print_item-end : goal.slice_bounds-print_item-end
 slice_bounds-print_item-end c = omega (arith, c.item_room.ensures, here-fits c.line_length.result c.read_line-item.result c.loop-i.invariant (omega (arith, c.loop-i-test)) c.line_length.ensures.0 c.read_line-item.ensures.value)
@@ -51,7 +51,7 @@ print_item-len-requires c =
     (l, omega (arith, l, k, part-long b.out b.len, out-length b.invariant, b.invariant.len_ok, b.invariant.out_ok, c.loop-i-test))
 
 pub overflow_add-len : goal.overflow_add-len
-overflow_add-len c = let b = c.loop-i in let k = here-fits c.line_length.result c.read_line-item.result b.invariant (omega (arith, c.loop-i-test)) c.line_length.ensures.0 c.read_line-item.ensures.value in let answer = take (b.at + c.item_room.result - b.at) (drop b.at c.args.answers.now) in omega (arith, c.item_room.ensures, k, piece-length b.at (b.at + c.item_room.result) c.item_room.result c.args.answers.now refl (omega (arith, c.item_room.ensures, k)), c.print_item-len.ensures.0, item-short c.read_line-item.result answer, b.invariant.len_ok, b.invariant.out_ok, c.loop-i-test, c.well-formed)
+overflow_add-len c = let b = c.loop-i in let k = here-fits c.line_length.result c.read_line-item.result b.invariant (omega (arith, c.loop-i-test)) c.line_length.ensures.0 c.read_line-item.ensures.value in let answer = take (b.at + c.item_room.result - b.at) (drop b.at c.args.answers.now) in omega (arith, c.item_room.ensures, k, piece-length b.at (b.at + c.item_room.result) c.item_room.result c.args.answers.now refl (omega (arith, c.item_room.ensures, k)), c.print_item-len.ensures.0, item-short c.read_line-item.result answer, b.invariant.len_ok, b.invariant.out_ok, c.loop-i-test, c.well_formed)
 
 pub overflow_add-i : goal.overflow_add-i
 overflow_add-i c = omega (arith, c.line_length.ensures.1, part-long c.args.text.now c.loop-i.i, c.loop-i-test, c.requires.text_len_bound)
@@ -66,7 +66,7 @@ pub ending_room-requires : goal.ending_room-requires
 ending_room-requires c = c.requires.memory_bound
 
 pub overflow_add-end-2 : goal.overflow_add-end-2
-overflow_add-end-2 c = omega (arith, c.ending_room.ensures, c.loop-i.invariant.at_ok, c.well-formed)
+overflow_add-end-2 c = omega (arith, c.ending_room.ensures, c.loop-i.invariant.at_ok, c.well_formed)
 
 pub slice_bounds-print_ending-end : goal.slice_bounds-print_ending-end
 slice_bounds-print_ending-end c = omega (arith, c.ending_room.ensures, c.loop-i.invariant.at_ok)
@@ -96,7 +96,7 @@ overflow_add-result c =
     let s = c in
     let a = s.args in
     let l = piece-length b.at (b.at + r.result) r.result a.answers.now refl (omega (arith, r.ensures, b.invariant.at_ok)) ∙ r.ensures in
-    omega (arith, c.print_ending.ensures.0, ending-short a.memory (take (b.at + r.result - b.at) (drop b.at a.answers.now)) l, b.invariant.len_ok, b.invariant.at_ok, b.invariant.out_ok, b.invariant.place_ok, s.well-formed)
+    omega (arith, c.print_ending.ensures.0, ending-short a.memory (take (b.at + r.result - b.at) (drop b.at a.answers.now)) l, b.invariant.len_ok, b.invariant.at_ok, b.invariant.out_ok, b.invariant.place_ok, s.well_formed)
 
 pub shape_of-room : goal.shape_of-room
 shape_of-room c = c.loop-i.invariant.same_ok

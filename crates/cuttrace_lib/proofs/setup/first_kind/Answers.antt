@@ -15,7 +15,7 @@ pub bounds-line-i : goal.bounds-line-i
 bounds-line-i c = omega (arith, c.loop-i-test)
 
 pub overflow_add-i : goal.overflow_add-i
-overflow_add-i c = omega (arith, c.loop-i-test, c.well-formed)
+overflow_add-i c = omega (arith, c.loop-i-test, c.well_formed)
 
 pub loop-i-smaller : goal.loop-i-smaller
 loop-i-smaller c = omega (arith, c.loop-i-test)

@@ -33,7 +33,7 @@ print_lines-requires c = let p = c.requires.text_len_bound_2 in let a = part-lon
 
 pub overflow_add-result : goal.overflow_add-result
 overflow_add-result c = let o = c.print_line-n in let part = take (length o.new.out - o.result) (drop o.result o.new.out) in
-    omega (arith, shows-fits (lines_text c.memory_size.result (lines_from [] c.args.text.now) (take (length c.args.answers.now - c.prelude_room-from.result) (drop c.prelude_room-from.result c.args.answers.now))) c.print_lines.new.out.1.1.1.0 part c.print_lines.ensures c.out-2-1.given.0, part-long o.new.out o.result, o.ensures.value, length-line 0 [], c.out-1.given, c.requires.text_in_bounds, c.well-formed)
+    omega (arith, shows-fits (lines_text c.memory_size.result (lines_from [] c.args.text.now) (take (length c.args.answers.now - c.prelude_room-from.result) (drop c.prelude_room-from.result c.args.answers.now))) c.print_lines.new.out.1.1.1.0 part c.print_lines.ensures c.out-2-1.given.0, part-long o.new.out o.result, o.ensures.value, length-line 0 [], c.out-1.given, c.requires.text_in_bounds, c.well_formed)
 
 pub shape_of-room : goal.shape_of-room
 shape_of-room c = c.room-1.given

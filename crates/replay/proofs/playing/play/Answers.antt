@@ -36,7 +36,7 @@ pub put_state-requires : goal.put_state-requires
 put_state-requires c = (c.requires.out_len ∙ ap item_room c.in-ChipState.is, search rules)
 
 pub overflow_add-end : goal.overflow_add-end
-overflow_add-end c = record { fits = omega (arith, load-ends c.args.item _ (length c.args.list.now) c.in-LoadSave.is c.requires.item_in_bounds, c.well-formed) }
+overflow_add-end c = record { fits = omega (arith, load-ends c.args.item _ (length c.args.list.now) c.in-LoadSave.is c.requires.item_in_bounds, c.well_formed) }
 
 pub slice_bounds-load_save-end : goal.slice_bounds-load_save-end
 slice_bounds-load_save-end c = load-ends c.args.item _ (length c.args.list.now) c.in-LoadSave.is c.requires.item_in_bounds

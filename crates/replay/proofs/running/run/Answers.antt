@@ -35,7 +35,7 @@ item_room-requires c = omega (arith, c.item_in-item.ensures.result_in_bounds.1)
 
 pub overflow_add-end : goal.overflow_add-end
 overflow_add-end c = let l = c.args.list.now in
-    omega (arith, c.item_room.ensures, has_room c.loop-i.invariant (omega (arith, c.loop-i-test)) c.item_in-item.result (c.item_in-item.ensures.value ∙ ap item_in (rest c.loop-i.i l)), c.well-formed)
+    omega (arith, c.item_room.ensures, has_room c.loop-i.invariant (omega (arith, c.loop-i-test)) c.item_in-item.result (c.item_in-item.ensures.value ∙ ap item_in (rest c.loop-i.i l)), c.well_formed)
 
 pub slice_bounds-play-count : goal.slice_bounds-play-count
 slice_bounds-play-count c = c.loop-i.invariant.place_ok
@@ -56,10 +56,10 @@ play-cart-requires c = let b = c.loop-i in
     (c.item_in-item.ensures.result_in_bounds.0, (piece-length b.at (b.at + n) n b.out refl (omega (arith, c.item_room.ensures, k, out-length b.invariant)) ∙ c.item_room.ensures, (record-allowed s b.invariant.stands.sound, (b.invariant.stands.sound.memory_ok, omega (arith, b.invariant.memory_ok, b.invariant.scratch_ok, c.requires.memory_in_bounds)))))
 
 pub item_length-i-requires : goal.item_length-i-requires
-item_length-i-requires c = omega (arith, c.item_in-item.ensures.result_in_bounds.0, length_rest c.loop-i.i c.args.list.now, c.well-formed)
+item_length-i-requires c = omega (arith, c.item_in-item.ensures.result_in_bounds.0, length_rest c.loop-i.i c.args.list.now, c.well_formed)
 
 pub overflow_add-i : goal.overflow_add-i
-overflow_add-i c = omega (arith, c.item_length-i.ensures, c.item_in-item.ensures.result_in_bounds.0, length_rest c.loop-i.i c.args.list.now, c.loop-i-test, c.well-formed)
+overflow_add-i c = omega (arith, c.item_length-i.ensures, c.item_in-item.ensures.result_in_bounds.0, length_rest c.loop-i.i c.args.list.now, c.loop-i-test, c.well_formed)
 
 pub loop-i-smaller : goal.loop-i-smaller
 loop-i-smaller c = omega (arith, c.item_length-i.ensures, takes-some c.item_in-item.result, c.loop-i-test)
@@ -84,7 +84,7 @@ ending_room-requires c =
     omega (arith, b.invariant.stands.sound.memory_ok, memory-small b.cart.kind)
 
 pub overflow_add-end-2 : goal.overflow_add-end-2
-overflow_add-end-2 c = omega (arith, c.ending_room.ensures, c.loop-i.invariant.room_ok, c.well-formed)
+overflow_add-end-2 c = omega (arith, c.ending_room.ensures, c.loop-i.invariant.room_ok, c.well_formed)
 
 pub slice_bounds-end_with-end : goal.slice_bounds-end_with-end
 slice_bounds-end_with-end c =
