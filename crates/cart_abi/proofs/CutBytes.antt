@@ -34,7 +34,7 @@ use Rattle.cart.proofs.Sound.{Sound, record-allowed, memory-fits, sound-fresh, o
 use Rattle.cart.proofs.Tallies.{Fit, right-fit}
 use Rattle.cart.proofs.Stretches.{stretches}
 use Rattle.cart.proofs.Recoverable.{Recoverable, NoByteWrite, recoverable-step, recoverable-fresh}
-use Rattle.cart.proofs.Resume.{Long, file-long, export-accepted, state-accepted, file-left, bytes_left, load-allowed, load-next, acc_lt, resumed-is, open-fresh}
+use Rattle.cart.proofs.Resume.{Long, file-long, export-accepted, state-accepted, file-left, bytes_left_lem, load-allowed, load-next, acc_lt, resumed-is, open-fresh}
 use Rattle.cart.proofs.CutRuns.{quiet, unflagged, either-quiet, recoverable-flag, state_seen, outcome_seen, step-seen, next-seen, quiet-seen, flag-seen, file-same, bytes_same}
 use Rattle.out_params.specs.Places.{placed}
 use Rattle.c_record.specs.RecordBytes.{record_bytes, chip_in, cart_of, is_record, state_of}
@@ -250,7 +250,7 @@ module _ (image : List ℕ) (part : ℕ) (x : Buffers image part) (s : State) (r
   state-is =
       let k = r.sound in
       ap (λ (y : AtExit). (state_at x.state y).3) (untallied machine.chip_state [] s refl k ∙ ap left (state-accepted s (record-allowed s k)))
-      ∙ sym (bytes_left s (record-allowed s k))
+      ∙ sym (bytes_left_lem s (record-allowed s k))
 
   -- the cartridge in which the host goes on, and the flag that it has then
   abbrev target : State
