@@ -49,7 +49,7 @@ def contracts(crates):
                 head = m.group(2)
                 req = re.findall(r"\brequires\*? ?(\w*) ?\{", head)
                 ens = re.findall(r"\bensures\*? ?(\w*) ?\{", head)
-                LENT[crate, m.group(1)] = re.findall(r"(\w+): &mut ", head.split("requires")[0].split("ensures")[0])
+                LENT[crate, m.group(1)] = re.findall(r"(?:mut )?(\w+): ", head.split("requires")[0].split("ensures")[0])
                 found.setdefault((crate, m.group(1)), []).append((module, req, ens))
     return found
 

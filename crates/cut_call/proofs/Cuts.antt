@@ -19,7 +19,7 @@ use Rattle.cart.specs.Record.{State, Outcome, record_allowed}
 use Rattle.cart.specs.Calls.{save_data, chip_state, file_of, holds, exported, step, restore}
 use Rattle.cart.specs.Cut.{file_left, bytes_left, reloaded}
 use Rattle.cart.specs.Replies.{state, tallied, first, replied, export_replied}
-use Rattle.cart.proofs.Resume.{file-fits, export-accepted, state-accepted, file-left, bytes_left, Long, file-long}
+use Rattle.cart.proofs.Resume.{file-fits, export-accepted, state-accepted, file-left, bytes_left_lem, Long, file-long}
 use Rattle.cart.proofs.Stretches.{restored-apart}
 use Rattle.state_calls.specs.StateAnswer.{or_zeros}
 use Rattle.cut_call.specs.Loads.{loaded_from}
@@ -78,7 +78,7 @@ module _ (scratch d' : List ℕ) (cart : Cartridge) (m : List ℕ) (r : Reply) (
 
 pub bytes-are : (s : State) → record_allowed s.cart ≡ true → or_zeros (step chip_state [] s).given ≡ bytes_left s
 unfolding state_bytes chip_bytes
-bytes-are s a = ap (λ (o : Outcome). or_zeros o.given) (state-accepted s a) ∙ sym (bytes_left s a)
+bytes-are s a = ap (λ (o : Outcome). or_zeros o.given) (state-accepted s a) ∙ sym (bytes_left_lem s a)
 
 -- a restore leaves the tallies that it is not passed
 pub restored-with : (b : List ℕ) (c : Cartridge) (m ts : List ℕ) {r : Reply} → (r, m) ≡ replied (restore b (state c m))

@@ -19,7 +19,7 @@ use Rattle.chip_record.specs.States.{state_bytes, Carried}
 use Rattle.cart.specs.Cut.{file_left, bytes_left, cuts, Turn, Compared, run, uncut, shown, carries_flag, all_carry_flag, seen}
 use Rattle.cart.proofs.Sound.{record-allowed, memory-fits}
 use Rattle.cart.proofs.Recoverable.{Recoverable, recoverable-step}
-use Rattle.cart.proofs.Resume.{export-accepted, state-accepted, file-left, bytes_left}
+use Rattle.cart.proofs.Resume.{export-accepted, state-accepted, file-left, bytes_left_lem}
 use Rattle.cart.proofs.CutRuns.{all_seen, cut-runs}
 use Rattle.call_list.specs.declared.Item.{Item}
 use Rattle.call_list.specs.declared.Item.TheVariants.{SaveRead, SaveWrite, EepromRead, EepromWrite, BeginDma, TakeFlag, ChipState, LoadSave, SaveData, Cut, Bad}
@@ -43,7 +43,7 @@ ending-is image part s r =
     let b = memory-fits s r.sound in
     let f : (file_answer (step save_data (replicate n 0) s)).bytes ≡ file_bytes n (file_left s) =
     ap (λ (o : Outcome). (file_answer o).bytes) (export-accepted (replicate n 0) s a b (simp length-replicate (omega arith))) ∙ file-bytes n (file_of s.cart.kind s) s ∙ ap (file_bytes n) (sym (file-left s a b)) in
-    let g : (record_answer (step chip_state [] s)).bytes ≡ 0 ∷ bytes_left s = ap (λ (o : Outcome). (record_answer o).bytes) (state-accepted s a) ∙ ap (λ (l : List ℕ). 0 ∷ l) (sym (bytes_left s a)) in
+    let g : (record_answer (step chip_state [] s)).bytes ≡ 0 ∷ bytes_left s = ap (λ (o : Outcome). (record_answer o).bytes) (state-accepted s a) ∙ ap (λ (l : List ℕ). 0 ∷ l) (sym (bytes_left_lem s a)) in
     λ i. f i ++ g i
 
 -- how many bytes a recoverable state's memory has

@@ -10,7 +10,7 @@ pub piece-t-requires : goal.piece-t-requires
 piece-t-requires c =
     let i = c.loop-turns.invariant in
     let p = c.requires in
-    (omega (arith, i.0, p.in_bounds), (omega (arith, i.1, p.in_bounds_2), omega (arith, i.2, p.in_bounds_3)))
+    record { in_bounds = omega (arith, i.0, p.in_bounds); in_bounds_2 = omega (arith, i.1, p.in_bounds_2); in_bounds_3 = omega (arith, i.2, p.in_bounds_3) }
 
 pub shape_of-memory-then-not-t : goal.shape_of-memory-then-not-t
 shape_of-memory-then-not-t c = c.memory-1.given ∙ c.loop-turns.invariant.0

@@ -24,7 +24,7 @@ slice_bounds-resume-end c =
     let d = c in
     let s = c in
     let a = s.args in
-    let left = d.save_data-exported.new.destination.1.1.0 in
+    let left = d.save_data-exported.new.destination in
     let v = value-fits a.scratch.now left a.cart a.memory.now d.save_data-exported.result s.requires.cart_value s.requires.memory_len s.requires.memory_in_bounds d.save_data-exported.ensures in
     omega (arith, v, length-append left (drop (length a.memory.now) a.scratch.now))
 
@@ -33,7 +33,7 @@ slice_bounds-resume-end-2 c =
     let d = c in
     let s = c in
     let a = s.args in
-    let left = d.save_data-exported.new.destination.1.1.0 in
+    let left = d.save_data-exported.new.destination in
     let v = value-fits a.scratch.now left a.cart a.memory.now d.save_data-exported.result s.requires.cart_value s.requires.memory_len s.requires.memory_in_bounds d.save_data-exported.ensures in
     sym (length-take-le _ _ (omega (arith, v, length-append left (drop (length a.memory.now) a.scratch.now))))
 
@@ -51,6 +51,6 @@ returns c =
     c.resume.ensures
     ∙ ap₂ (λ (b : List ℕ) (u : State). (restore b u).next)
     ((λ i. (k i).0.bytes) ∙ bytes-are t s.requires.cart_value ∙ sym (bytes-left-apart ts t))
-    (reloads a.scratch.now d.save_data-exported.new.destination.1.1.0 a.cart m d.save_data-exported.result s.requires.cart_value s.requires.memory_len s.requires.memory_in_bounds d.save_data-exported.ensures
+    (reloads a.scratch.now d.save_data-exported.new.destination a.cart m d.save_data-exported.result s.requires.cart_value s.requires.memory_len s.requires.memory_in_bounds d.save_data-exported.ensures
     (drop (length m) a.scratch.now) f
     ∙ ap (λ (o : Option (List ℕ)). reloaded o f) (sym (file-left-apart ts t)))

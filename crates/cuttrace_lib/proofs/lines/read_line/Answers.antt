@@ -10,19 +10,19 @@ pub returns-then-n-eq0 : goal.returns-then-n-eq0
 returns-then-n-eq0 c = read_short c.args.line.now c.args.room.now c.if-n-eq0.true
 
 pub returns-then-not-put_bytes : goal.returns-then-not-put_bytes
-returns-then-not-put_bytes c = read-other c.args.line.now c.put_bytes.new.room.1.0 c.put_bytes.new.room.1.0 c.put_bytes.result c.if-not-put_bytes.true c.put_bytes.ensures
+returns-then-not-put_bytes c = read-other c.args.line.now c.put_bytes.new.room c.put_bytes.new.room c.put_bytes.result c.if-not-put_bytes.true c.put_bytes.ensures
 
 pub slice_bounds-item_in-end-2 : goal.slice_bounds-item_in-end-2
-slice_bounds-item_in-end-2 c = sym (length-take-le (length c.args.line.now / 2) c.put_bytes.new.room.1.0 (omega (arith, c.requires, c.room-1.given)))
+slice_bounds-item_in-end-2 c = sym (length-take-le (length c.args.line.now / 2) c.put_bytes.new.room (omega (arith, c.requires, c.room-1.given)))
 
 pub item_in-item-requires : goal.item_in-item-requires
-item_in-item-requires c = omega (arith, c.if-n-eq0.false, length-take-le (length c.args.line.now / 2) c.put_bytes.new.room.1.0 (omega (arith, c.requires, c.room-1.given)))
+item_in-item-requires c = omega (arith, c.if-n-eq0.false, length-take-le (length c.args.line.now / 2) c.put_bytes.new.room (omega (arith, c.requires, c.room-1.given)))
 
 pub item_length-requires : goal.item_length-requires
-item_length-requires c = omega (arith, c.item_in-item.ensures.result_in_bounds.0, c.well_formed, length-take-le (length c.args.line.now / 2) c.put_bytes.new.room.1.0 (omega (arith, c.requires, c.room-1.given)))
+item_length-requires c = omega (arith, c.item_in-item.ensures.result_in_bounds.0, c.well_formed, length-take-le (length c.args.line.now / 2) c.put_bytes.new.room (omega (arith, c.requires, c.room-1.given)))
 
 pub returns-then-item_length-n : goal.returns-then-item_length-n
-returns-then-item_length-n c = read-longer c.args.line.now c.put_bytes.new.room.1.0 c.put_bytes.result c.item_in-item.result c.item_length.result (omega (arith, c.requires, c.room-1.given)) c.if-not-put_bytes.false c.put_bytes.ensures c.item_in-item.ensures.value c.item_length.ensures c.if-item_length-n.true
+returns-then-item_length-n c = read-longer c.args.line.now c.put_bytes.new.room c.put_bytes.result c.item_in-item.result c.item_length.result (omega (arith, c.requires, c.room-1.given)) c.if-not-put_bytes.false c.put_bytes.ensures c.item_in-item.ensures.value c.item_length.ensures c.if-item_length-n.true
 
 pub returns : goal.returns
-returns c = read_whole c.args.line.now c.put_bytes.new.room.1.0 c.put_bytes.result c.item_in-item.result c.item_length.result (omega (arith, c.requires, c.room-1.given)) c.if-not-put_bytes.false c.put_bytes.ensures c.item_in-item.ensures.value c.item_length.ensures c.if-item_length-n.false
+returns c = read_whole c.args.line.now c.put_bytes.new.room c.put_bytes.result c.item_in-item.result c.item_length.result (omega (arith, c.requires, c.room-1.given)) c.if-not-put_bytes.false c.put_bytes.ensures c.item_in-item.ensures.value c.item_length.ensures c.if-item_length-n.false

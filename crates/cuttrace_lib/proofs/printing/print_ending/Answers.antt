@@ -25,7 +25,7 @@ print_state-requires c =
     let a = s.args in
     let f = c.print_file-n in
     let l = part-long a.ending.now (5 + a.memory) in
-    (omega (arith, l, s.requires.ending_len), omega (arith, l, part-long f.new.out.1.0 f.result, f.ensures.0, file-fits a.memory a.ending.now s.requires.ending_len, c.out-1.given, s.requires))
+    (omega (arith, l, s.requires.ending_len), omega (arith, l, part-long f.new.out f.result, f.ensures.0, file-fits a.memory a.ending.now s.requires.ending_len, c.out-1.given, s.requires))
 
 pub overflow_add-result : goal.overflow_add-result
 overflow_add-result c =
@@ -34,4 +34,4 @@ overflow_add-result c =
     omega (arith, c.print_file-n.ensures.0, file-fits a.memory a.ending.now s.requires.ending_len, c.print_state.ensures.0, state-short (take (length a.ending.now - (5 + a.memory)) (drop (5 + a.memory) a.ending.now)), s.requires, s.well_formed)
 
 pub returns : goal.returns
-returns c = ending-shown c.args.memory c.args.ending.now c.args.out.now c.print_file-n.new.out.1.0 c.print_state.new.out.1.0 c.print_file-n.result c.print_state.result c.requires.ending_len (omega (arith, c.print_file-n.ensures.0, file-fits c.args.memory c.args.ending.now c.requires.ending_len, c.requires)) c.print_file-n.ensures c.print_state.ensures
+returns c = ending-shown c.args.memory c.args.ending.now c.args.out.now c.print_file-n.new.out c.print_state.new.out c.print_file-n.result c.print_state.result c.requires.ending_len (omega (arith, c.print_file-n.ensures.0, file-fits c.args.memory c.args.ending.now c.requires.ending_len, c.requires)) c.print_file-n.ensures c.print_state.ensures

@@ -60,7 +60,7 @@ pub loop-i-smaller : goal.loop-i-smaller
 loop-i-smaller c = omega (arith, c.line_length.ensures.1, part-long c.args.text.now c.loop-i.i, c.loop-i-test)
 
 pub loop-i-preserved : goal.loop-i-preserved
-loop-i-preserved c = print-more c.line_length.result c.item_room.result c.read_line-item.result _ c.print_item-len.new.out.1.1.0 c.print_item-len.result c.loop-i.invariant (omega (arith, c.loop-i-test)) c.line_length.ensures.0 c.line_length.ensures.1 c.read_line-item.ensures.value c.item_room.ensures c.room-1.given c.print_item-len.ensures
+loop-i-preserved c = print-more c.line_length.result c.item_room.result c.read_line-item.result _ c.print_item-len.new.out c.print_item-len.result c.loop-i.invariant (omega (arith, c.loop-i-test)) c.line_length.ensures.0 c.line_length.ensures.1 c.read_line-item.ensures.value c.item_room.ensures c.room-1.given c.print_item-len.ensures
 
 pub ending_room-requires : goal.ending_room-requires
 ending_room-requires c = c.requires.memory_bound
@@ -108,4 +108,4 @@ pub returns : goal.returns
 returns c =
     let r = c.ending_room in
     let e = c.print_ending in
-    print-all r.result e.new.out.1.1.0 e.result c.loop-i.invariant (omega (arith, c.loop-i-test)) r.ensures e.ensures
+    print-all r.result e.new.out e.result c.loop-i.invariant (omega (arith, c.loop-i-test)) r.ensures e.ensures

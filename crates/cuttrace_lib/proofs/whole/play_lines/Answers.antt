@@ -9,7 +9,7 @@ use Rattle.cuttrace_lib.proofs.Traces.{text-refused, text-accepted, answers-held
 use Rattle.cuttrace_lib.proofs.whole.play_lines.Goals as goal
 
 pub slice_bounds-gbasave_replay-end-3 : goal.slice_bounds-gbasave_replay-end-3
-slice_bounds-gbasave_replay-end-3 c = sym (length-take-le c.put_list-used.result c.put_list-used.new.room.1.1.0 c.put_list-used.ensures.upper_bound)
+slice_bounds-gbasave_replay-end-3 c = sym (length-take-le c.put_list-used.result c.put_list-used.new.room c.put_list-used.ensures.upper_bound)
 
 pub slice_bounds-gbasave_replay-end-4 : goal.slice_bounds-gbasave_replay-end-4
 slice_bounds-gbasave_replay-end-4 c = omega (arith, c.memory_size-n.ensures, memory-small c.args.kind, c.requires.in_bounds)

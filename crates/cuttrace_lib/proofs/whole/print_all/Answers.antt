@@ -33,7 +33,7 @@ print_lines-requires c = let p = c.requires.text_len_bound_2 in let a = part-lon
 
 pub overflow_add-result : goal.overflow_add-result
 overflow_add-result c = let o = c.print_line-n in let part = take (length o.new.out - o.result) (drop o.result o.new.out) in
-    omega (arith, shows-fits (lines_text c.memory_size.result (lines_from [] c.args.text.now) (take (length c.args.answers.now - c.prelude_room-from.result) (drop c.prelude_room-from.result c.args.answers.now))) c.print_lines.new.out.1.1.1.0 part c.print_lines.ensures c.out-2-1.given.0, part-long o.new.out o.result, o.ensures.value, length-line 0 [], c.out-1.given, c.requires.text_in_bounds, c.well_formed)
+    omega (arith, shows-fits (lines_text c.memory_size.result (lines_from [] c.args.text.now) (take (length c.args.answers.now - c.prelude_room-from.result) (drop c.prelude_room-from.result c.args.answers.now))) c.print_lines.new.out part c.print_lines.ensures c.out-2-1.given.0, part-long o.new.out o.result, o.ensures.value, length-line 0 [], c.out-1.given, c.requires.text_in_bounds, c.well_formed)
 
 pub shape_of-room : goal.shape_of-room
 shape_of-room c = c.room-1.given
@@ -42,4 +42,4 @@ pub shape_of-out : goal.shape_of-out
 shape_of-out c = c.out-2-1.given.1 ∙ c.out-1.given
 
 pub returns : goal.returns
-returns c = all_shown c.args.kind c.args.text.now c.args.answers.now c.args.out.now c.print_line-n.new.out c.print_lines.new.out.1.1.1.0 c.memory_size.result c.prelude_room-from.result c.print_line-n.result c.print_lines.result c.memory_size.ensures c.prelude_room-from.ensures (omega (arith, c.print_line-n.ensures.value, length-line 0 [], c.requires.text_in_bounds)) (c.print_line-n.ensures.value, c.print_line-n.ensures.out_after) c.print_lines.ensures
+returns c = all_shown c.args.kind c.args.text.now c.args.answers.now c.args.out.now c.print_line-n.new.out c.print_lines.new.out c.memory_size.result c.prelude_room-from.result c.print_line-n.result c.print_lines.result c.memory_size.ensures c.prelude_room-from.ensures (omega (arith, c.print_line-n.ensures.value, length-line 0 [], c.requires.text_in_bounds)) (c.print_line-n.ensures.value, c.print_line-n.ensures.out_after) c.print_lines.ensures

@@ -19,8 +19,8 @@ put_length-requires c = first-five c.args.out.now _ c.requires
 pub returns : goal.returns
 returns c = let a = c.args in
     let e = c.export_into-exported.ensures in (
-      front-of-tail a.out.now c.put_length.new.out c.export_into-exported.new.destination.1.1.0 c.requires
-          ∙ (λ i. c.put_length.ensures i ++ c.export_into-exported.new.destination.1.1.0)
+      front-of-tail a.out.now c.put_length.new.out c.export_into-exported.new.destination c.requires
+          ∙ (λ i. c.put_length.ensures i ++ c.export_into-exported.new.destination)
           ∙ (λ i. ((e i).0.refusal ∷ four_bytes (e i).0.value) ++ (e i).1)
           ∙ ap (λ (n : ℕ). (file_answer (step save_data (replicate n 0) (state a.cart a.memory.now))).bytes) (length_rest 5 a.out.now),
       search rules,

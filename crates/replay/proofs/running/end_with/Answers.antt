@@ -21,7 +21,7 @@ unfolding ending
 returns c = let a = c.args in
     let n = length a.memory.now in
     let s = state a.cart a.memory.now in
-    let f = c.put_file.new.out.1.1.0 in
+    let f = c.put_file.new.out in
     let t = length-take-le (5 + n) a.out.now (omega (arith, c.requires)) in
     let q : length (take (5 + n) a.out.now) - 5 ≡ n = omega (arith, t) in
     let k = c.chip_state.ensures a.memory.now in

@@ -9,7 +9,7 @@ run-requires c =
     let a = s.args in
     let o = c.from_number-opened in
     let l = c.memory-1.given in (
-      opens-alike a.image.now a.part a.memory.now a.tallies.now s.requires.tallies_value o.new.tallies.1.0 o.new.tallies.1.1.0 l c.tallies-1.given,
+      opens-alike a.image.now a.part a.memory.now a.tallies.now s.requires.tallies_value o.new.memory o.new.tallies l c.tallies-1.given,
       (
         opened-fresh a.image.now a.part a.memory.now a.tallies.now s.requires.tallies_value o.ensures,
         (s.requires.image_value, (omega (arith, l, s.requires.memory_in_bounds), omega (arith, l, s.requires.memory_in_bounds_2))),

@@ -69,7 +69,7 @@ loop-i-preserved c = let b = c.loop-i in
     let a = c.args in
     let l = a.list.now in
     let n = c.item_room.result in
-    let o = c.play-cart.new.out.1.1.1.1.1.0 in
+    let o = c.play-cart.new.out in
     let h = c.item_in-item.ensures.value ∙ ap item_in (rest b.i l) in
     let k = has_room b.invariant (omega (arith, c.loop-i-test)) c.item_in-item.result h in
     let e : b.at + n - b.at ≡ n = omega arith in
@@ -114,7 +114,7 @@ returns c =
     let b = c.loop-i in
     let r = c.ending_room in
     let n = r.result in
-    let o = c.end_with.new.out.1.1.0 in
+    let o = c.end_with.new.out in
     let e : b.at + n - b.at ≡ n = omega arith in
     ends b.invariant (omega (arith, c.loop-i-test)) n c.end_with.ensures
     (c.out-2-1.given.0 ∙ piece-length b.at (b.at + n) n b.out refl (omega (arith, r.ensures, b.invariant.room_ok, out-length b.invariant)))
