@@ -36,16 +36,7 @@ open_and_run-requires c =
     let i = a.image.now in
     let m = memory-length i a.part a.list.now a.memory.now a.scratch.now a.out.now w.result w.ensures z in
     let ts = take (length a.memory.now / 4096) c.room-tallies.result in
-    let l = length-take-le (length a.memory.now / 4096) c.room-tallies.result (omega (arith, m, memory-small (detect_save_type i), c.room-tallies.ensures)) in (
-      opens i a.part a.list.now a.memory.now a.scratch.now a.out.now w.result w.ensures z ts (omega (arith, l, m, whole-stretches (detect_save_type i))),
-      (
-        no-byte-write i a.part a.list.now a.memory.now a.scratch.now a.out.now w.result w.ensures z,
-        (
-          scratch-holds i a.part a.list.now a.memory.now a.scratch.now a.out.now w.result w.ensures z,
-          out-holds i a.part a.list.now a.memory.now a.scratch.now a.out.now w.result w.ensures z,
-        ),
-      ),
-    )
+    let l = length-take-le (length a.memory.now / 4096) c.room-tallies.result (omega (arith, m, memory-small (detect_save_type i), c.room-tallies.ensures)) in record { tallies_value = opens i a.part a.list.now a.memory.now a.scratch.now a.out.now w.result w.ensures z ts (omega (arith, l, m, whole-stretches (detect_save_type i))); image_value = no-byte-write i a.part a.list.now a.memory.now a.scratch.now a.out.now w.result w.ensures z; memory_in_bounds = scratch-holds i a.part a.list.now a.memory.now a.scratch.now a.out.now w.result w.ensures z; memory_in_bounds_2 = out-holds i a.part a.list.now a.memory.now a.scratch.now a.out.now w.result w.ensures z }
 
 pub returns : goal.returns
 returns c =

@@ -33,7 +33,7 @@ pub show_value-requires-in-TakeFlag : goal.show_value-requires-in-TakeFlag
 show_value-requires-in-TakeFlag c = c.requires.out_len ∙ ap item_room c.in-TakeFlag.is
 
 pub put_state-requires : goal.put_state-requires
-put_state-requires c = (c.requires.out_len ∙ ap item_room c.in-ChipState.is, search rules)
+put_state-requires c = record { out_len = c.requires.out_len ∙ ap item_room c.in-ChipState.is; bytes_len = search rules }
 
 pub overflow_add-end : goal.overflow_add-end
 overflow_add-end c = record { fits = omega (arith, load-ends c.args.item _ (length c.args.list.now) c.in-LoadSave.is c.requires.item_in_bounds, c.well_formed) }

@@ -8,10 +8,4 @@ run-requires c =
     let s = c in
     let a = s.args in
     let o = c.from_number-opened in
-    let l = c.memory-1.given in (
-      opens-alike a.image.now a.part a.memory.now a.tallies.now s.requires.tallies_value o.new.memory o.new.tallies l c.tallies-1.given,
-      (
-        opened-fresh a.image.now a.part a.memory.now a.tallies.now s.requires.tallies_value o.ensures,
-        (s.requires.image_value, (omega (arith, l, s.requires.memory_in_bounds), omega (arith, l, s.requires.memory_in_bounds_2))),
-      ),
-    )
+    let l = c.memory-1.given in record { tallies_value = opens-alike a.image.now a.part a.memory.now a.tallies.now s.requires.tallies_value o.new.memory o.new.tallies l c.tallies-1.given; tallies_value_2 = opened-fresh a.image.now a.part a.memory.now a.tallies.now s.requires.tallies_value o.ensures; image_value = s.requires.image_value; memory_in_bounds = omega (arith, l, s.requires.memory_in_bounds); memory_in_bounds_2 = omega (arith, l, s.requires.memory_in_bounds_2) }

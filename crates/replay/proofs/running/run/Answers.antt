@@ -53,7 +53,7 @@ play-cart-requires c = let b = c.loop-i in
     let k = has_room b.invariant (omega (arith, c.loop-i-test)) c.item_in-item.result (c.item_in-item.ensures.value ∙ ap item_in (rest b.i l)) in
     let n = c.item_room.result in
     let s = tallied b.cart b.memory b.tallies in
-    (c.item_in-item.ensures.result_in_bounds.0, (piece-length b.at (b.at + n) n b.out refl (omega (arith, c.item_room.ensures, k, out-length b.invariant)) ∙ c.item_room.ensures, (record-allowed s b.invariant.stands.sound, (b.invariant.stands.sound.memory_ok, omega (arith, b.invariant.memory_ok, b.invariant.scratch_ok, c.requires.memory_in_bounds)))))
+    record { item_in_bounds = c.item_in-item.ensures.result_in_bounds.0; out_len = piece-length b.at (b.at + n) n b.out refl (omega (arith, c.item_room.ensures, k, out-length b.invariant)) ∙ c.item_room.ensures; cart_value = record-allowed s b.invariant.stands.sound; memory_len = b.invariant.stands.sound.memory_ok; memory_in_bounds = omega (arith, b.invariant.memory_ok, b.invariant.scratch_ok, c.requires.memory_in_bounds) }
 
 pub item_length-i-requires : goal.item_length-i-requires
 item_length-i-requires c = omega (arith, c.item_in-item.ensures.result_in_bounds.0, length_rest c.loop-i.i c.args.list.now, c.well_formed)
