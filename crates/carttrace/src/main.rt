@@ -6,6 +6,8 @@
 ghost use Rattle.std.specs.Prelude.{◌≡◌, ◌≤◌, length};
 
 use carttrace_lib::Session;
+use std::io;
+use std::io::Read;
 
 #[derive(Clone, Copy)]
 struct Turn {
@@ -20,64 +22,87 @@ fn memory() -> [u8; 131072]
     [0; 131072]
 }
 
+// Room for what a piece of the input prints.
+fn output() -> [u8; 65536]
+    ensures { 65536 ≡ length result }
+{
+    [0; 65536]
+}
+
 // A piece of the input: 1,024 characters print at most 39 each.
-fn piece(session: Session, memory: &mut [u8], tallies: &mut [u16], out: &mut [u8]) -> Turn
+fn piece(
+    rt: &impl Print,
+    input: &mut impl Read,
+    session: Session,
+    memory: &mut [u8],
+    tallies: &mut [u16],
+    out: &mut [u8],
+) -> io::Result<Turn>
     requires in_bounds { 131072 ≤ length memory.old }
     requires in_bounds_2 { 32 ≤ length tallies.old }
     requires in_bounds_3 { 65536 ≤ length out.old }
 {
-    let mut input = [0u8; 1024];
-    let got = libc::read(0, &mut input);
-    if got <= 0 {
-        return Turn {
+    let mut text = [0u8; 1024];
+    let n = input.read(&mut text)?;
+    if n == 0 {
+        return Ok(Turn {
             session: session,
             more: false,
-        };
+        });
     }
-    let n = io::count(got, &input);
-    let t = carttrace_lib::feed(session, &input[..n], memory, tallies, out);
+    let t = carttrace_lib::feed(session, &text[..n], memory, tallies, out);
     let len = t.len;
     let next = t.session;
-    let written = io::write_all(1, &out[..len]);
-    Turn {
+    rt.write_all(&out[..len])?;
+    Ok(Turn {
         session: next,
-        more: written && !carttrace_lib::over(next),
-    }
+        more: !carttrace_lib::over(next),
+    })
 }
 
-// Reads to the end of the input, or until line 1 is bad. The loop needs a measure, so the turns count down from a
-// number that no run reaches.
-fn pieces(memory: &mut [u8], tallies: &mut [u16], out: &mut [u8]) -> Session
+// Reads to the end of the input, or until line 1 is bad.
+fn pieces(
+    rt: &impl Print,
+    input: &mut impl Read,
+    memory: &mut [u8],
+    tallies: &mut [u16],
+    out: &mut [u8],
+) -> io::Result<Session>
     requires in_bounds { 131072 ≤ length memory.old }
     requires in_bounds_2 { 32 ≤ length tallies.old }
     requires in_bounds_3 { 65536 ≤ length out.old }
 {
     let mut session = carttrace_lib::opened();
-    let mut turns = u64::MAX;
-    while turns > 0 {
-        let t = piece(session, memory, tallies, out);
+    for _ in 0..u64::MAX {
+        let t = piece(rt, input, session, memory, tallies, out)?;
         session = t.session;
         if !t.more {
-            return session;
+            break;
         }
-        turns -= 1;
     }
-    session
+    Ok(session)
 }
 
-fn run(memory: &mut [u8], tallies: &mut [u16], out: &mut [u8])
+fn run(
+    rt: &impl Print,
+    input: &mut impl Read,
+    memory: &mut [u8],
+    tallies: &mut [u16],
+    out: &mut [u8],
+) -> io::Result<()>
     requires in_bounds { 131072 ≤ length memory.old }
     requires in_bounds_2 { 32 ≤ length tallies.old }
     requires in_bounds_3 { 65536 ≤ length out.old }
 {
-    let t = carttrace_lib::finish(pieces(memory, tallies, out), memory, tallies, out);
+    let session = pieces(rt, input, memory, tallies, out)?;
+    let t = carttrace_lib::finish(session, memory, tallies, out);
     let len = t.len;
-    io::write_all(1, &out[..len]);
+    rt.write_all(&out[..len])
 }
 
-fn main() {
+fn main(rt: HostRuntime) -> io::Result<()> {
     let mut memory = memory();
     let mut tallies = [0u16; 32];
-    let mut out = io::large_buffer();
-    run(&mut memory, &mut tallies, &mut out);
+    let mut out = output();
+    run(&rt, &mut rt.reader(), &mut memory, &mut tallies, &mut out)
 }

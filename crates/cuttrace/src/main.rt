@@ -7,9 +7,12 @@
 
 #![tactic(auto)]
 
-ghost use Rattle.std.specs.Prelude.{◌≤◌, length};
+ghost use Rattle.std.specs.Prelude.{◌≤◌, length, IfOk};
 
-fn run(text: &[u8]) {
+use std::io;
+use std::io::Read;
+
+fn run(rt: &impl Print, text: &[u8]) -> io::Result<()> {
     let mut list = cuttrace_lib::large_room();
     let mut memory = cuttrace_lib::room();
     let mut scratch = cuttrace_lib::room();
@@ -23,36 +26,35 @@ fn run(text: &[u8]) {
         &mut answers,
         &mut out,
     );
-    io::write_all(1, &out[..n]);
+    rt.write_all(&out[..n])
 }
 
-fn read_piece(room: &mut [u8]) -> usize
-    ensures { result ≤ length room.old }
+fn read_piece(input: &mut impl Read, room: &mut [u8]) -> io::Result<usize>
+    ensures { IfOk result (λ n. n ≤ length room.old) }
 {
-    let got = libc::read(0, room);
-    io::count(got, room)
+    input.read(room)
 }
 
 // Reads to the end of the input, or until the trace is refused whatever follows. Returns how many characters it read.
-fn read_trace(text: &mut [u8]) -> usize
-    ensures { result ≤ length text.old }
+fn read_trace(input: &mut impl Read, text: &mut [u8]) -> io::Result<usize>
+    ensures { IfOk result (λ n. n ≤ length text.old) }
 {
     let mut len = 0;
     while len < text.len() {
-        let n = read_piece(&mut text[len..]);
+        let n = read_piece(input, &mut text[len..])?;
         if n == 0 {
-            return len;
+            break;
         }
         len += n;
         if cuttrace_lib::settled(&text[..len]) {
-            return len;
+            break;
         }
     }
-    len
+    Ok(len)
 }
 
-fn main() {
+fn main(rt: HostRuntime) -> io::Result<()> {
     let mut text = cuttrace_lib::trace_room();
-    let len = read_trace(&mut text);
-    run(&text[..len]);
+    let len = read_trace(&mut rt.reader(), &mut text)?;
+    run(&rt, &text[..len])
 }

@@ -1,6 +1,6 @@
 // Digits to bytes, bytes to numbers and numbers to bytes, highest first.
 ghost use Rattle.std.specs.Prelude.{◌≤◌};
-ghost use Rattle.io.specs.Counts.{IsPrefixLen};
+ghost use Rattle.named_files.specs.Counts.{IsPrefixLen};
 
 // The byte of two digits, or 256.
 pub fn pair(high: u8, low: u8) -> u16 {

@@ -3,7 +3,7 @@ ghost use Rattle.std.specs.Prelude.{◌≡◌, ◌≤◌, length};
 
 use crate::digits::{byte, bytes_of, number};
 use crate::made::{make_image, put_text};
-use crate::rooms::{at_most, at_most_tallies, memory_room, tallies_room};
+use crate::rooms::{at_most, at_most_tallies, image_room, memory_room, tallies_room};
 use cart::{Cartridge, Reply};
 use part::Part;
 
@@ -102,7 +102,7 @@ pub fn image_answer(s: &[u8], out: &mut [u8]) -> usize
     }
     let len = number(s, 1) as usize;
     let place = number(s, 6) as usize;
-    let mut image = io::buffer();
+    let mut image = image_room();
     let n = at_most(len, &image);
     if n != len {
         return 0;

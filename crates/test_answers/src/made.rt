@@ -1,12 +1,11 @@
 // Files and images that a frame gives by length and seed.
 use crate::rooms::at_most;
-use std::num::wrapping_add_u8;
 
 // Byte i is (seed + 7 × i + i / 256) mod 256.
 pub fn make_file(file: &mut [u8], seed: u8) {
     let mut i = 0;
     while i < file.len() {
-        file[i] = wrapping_add_u8(seed, ((i % 256 * 7 + i / 256 % 256) % 256) as u8);
+        file[i] = seed.wrapping_add(((i % 256 * 7 + i / 256 % 256) % 256) as u8);
         i += 1;
     }
 }
@@ -14,7 +13,7 @@ pub fn make_file(file: &mut [u8], seed: u8) {
 // The seed once more at every 64th byte.
 fn row(sum: u8, i: usize, seed: u8) -> u8 {
     if i % 64 == 0 {
-        return wrapping_add_u8(sum, seed);
+        return sum.wrapping_add(seed);
     }
     sum
 }
@@ -25,7 +24,7 @@ fn make_rows(image: &mut [u8], seed: u8) {
     let mut i = 0;
     while i < image.len() {
         sum = row(sum, i, seed);
-        image[i] = wrapping_add_u8(sum, (i % 256 * 13 % 256) as u8);
+        image[i] = sum.wrapping_add((i % 256 * 13 % 256) as u8);
         i += 1;
     }
 }

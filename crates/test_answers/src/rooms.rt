@@ -1,6 +1,6 @@
 // Buffers, and how much of one can be used.
 ghost use Rattle.std.specs.Prelude.{◌≡◌, ◌≤◌, length};
-ghost use Rattle.io.specs.Counts.{IsPrefixLen};
+ghost use Rattle.named_files.specs.Counts.{IsPrefixLen};
 
 // Room for the list.
 pub fn list_room() -> [u8; 262144]
@@ -28,6 +28,13 @@ pub fn file_room() -> [u8; 131328]
     ensures { 131328 ≡ length result }
 {
     [0; 131328]
+}
+
+// Room for an image.
+pub fn image_room() -> [u8; 4096]
+    ensures { 4096 ≡ length result }
+{
+    [0; 4096]
 }
 
 // Room for every printed answer, and more than every frame and answer has as bytes.

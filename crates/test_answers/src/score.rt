@@ -1,7 +1,7 @@
 // What is counted.
 use crate::digits::pair;
 use crate::print;
-use std::num::wrapping_add_u64;
+use std::io;
 
 // How many lines there were, how many of them differ, and how many have an answer, by the frame's number.
 #[derive(Clone, Copy)]
@@ -22,7 +22,7 @@ pub fn no_lines() -> Score {
 fn one_more(frames: [u64; 17], number: usize) -> [u64; 17] {
     let mut next = frames;
     if number < 17 {
-        next[number] = wrapping_add_u64(next[number], 1);
+        next[number] = next[number].wrapping_add(1);
     }
     next
 }
@@ -37,7 +37,7 @@ fn number_of(frame: &[u8]) -> usize {
 // One more line.
 pub fn counted(score: Score, frame: &[u8], answered: bool) -> Score {
     let mut next = score;
-    next.lines = wrapping_add_u64(next.lines, 1);
+    next.lines = next.lines.wrapping_add(1);
     if answered {
         let frames = next.frames;
         let more = one_more(frames, number_of(frame));
@@ -49,35 +49,39 @@ pub fn counted(score: Score, frame: &[u8], answered: bool) -> Score {
 // One more difference.
 pub fn differs(score: Score) -> Score {
     let mut next = score;
-    next.differ = wrapping_add_u64(next.differ, 1);
+    next.differ = next.differ.wrapping_add(1);
     next
 }
 
-fn print_frame(number: u8, count: u64) {
+fn print_frame(rt: &impl Print, number: u8, count: u64) -> io::Result<()> {
     if count == 0 {
-        return;
+        return Ok(());
     }
-    print(b"frame ");
-    let digits = [hex_text::character(number / 16), hex_text::character(number % 16)];
-    print(&digits);
-    print(b": ");
-    io::print_decimal(1, count);
-    print(b"\n");
+    print(rt, b"frame ")?;
+    let digits = [
+        hex_text::character(number / 16),
+        hex_text::character(number % 16),
+    ];
+    print(rt, &digits)?;
+    print(rt, b": ")?;
+    rt.print(count)?;
+    print(rt, b"\n")
 }
 
-fn print_frames(frames: &[u64; 17]) {
+fn print_frames(rt: &impl Print, frames: &[u64; 17]) -> io::Result<()> {
     let mut i: u8 = 0;
     while i < 17 {
-        print_frame(i, frames[i as usize]);
+        print_frame(rt, i, frames[i as usize])?;
         i += 1;
     }
+    Ok(())
 }
 
-pub fn print_score(score: Score) {
+pub fn print_score(rt: &impl Print, score: Score) -> io::Result<()> {
     let frames = score.frames;
-    print_frames(&frames);
-    io::print_decimal(1, score.lines);
-    print(b" answers replayed, ");
-    io::print_decimal(1, score.differ);
-    print(b" differ\n");
+    print_frames(rt, &frames)?;
+    rt.print(score.lines)?;
+    print(rt, b" answers replayed, ")?;
+    rt.print(score.differ)?;
+    print(rt, b" differ\n")
 }

@@ -6,6 +6,8 @@
 ghost use Rattle.std.specs.Prelude.{◌≡◌, ◌+◌, ◌≤◌, ◌<◌, length};
 
 use carttrace_lib::{Session, Told};
+use std::io;
+use std::rt::Runtime;
 
 fn memory() -> [u8; 131072]
     ensures { 131072 ≡ length result }
@@ -13,12 +15,12 @@ fn memory() -> [u8; 131072]
     [0; 131072]
 }
 
-fn show(t: Told, out: &[u8]) -> Session
+fn show(rt: &impl Print, t: Told, out: &[u8]) -> io::Result<Session>
     requires { t.len ≤ length out.now }
 {
     let len = t.len;
-    io::write_all(1, &out[..len]);
-    t.session
+    rt.write_all(&out[..len])?;
+    Ok(t.session)
 }
 
 fn piece_end(i: usize, n: usize) -> usize
@@ -32,7 +34,13 @@ fn piece_end(i: usize, n: usize) -> usize
 }
 
 // The text in pieces.
-fn pieces(text: &[u8], memory: &mut [u8], tallies: &mut [u16], out: &mut [u8]) -> Session
+fn pieces(
+    rt: &impl Print,
+    text: &[u8],
+    memory: &mut [u8],
+    tallies: &mut [u16],
+    out: &mut [u8],
+) -> io::Result<Session>
     requires in_bounds { 131072 ≤ length memory.old }
     requires in_bounds_2 { 32 ≤ length tallies.old }
     requires in_bounds_3 { 4096 ≤ length out.old }
@@ -42,47 +50,52 @@ fn pieces(text: &[u8], memory: &mut [u8], tallies: &mut [u16], out: &mut [u8]) -
     while i < text.len() {
         let end = piece_end(i, text.len());
         let t = carttrace_lib::feed(session, &text[i..end], memory, tallies, out);
-        session = show(t, out);
+        session = show(rt, t, out)?;
         i = end;
     }
-    session
+    Ok(session)
 }
 
-fn run(text: &[u8], memory: &mut [u8], tallies: &mut [u16], out: &mut [u8])
+fn run(
+    rt: &impl Print,
+    text: &[u8],
+    memory: &mut [u8],
+    tallies: &mut [u16],
+    out: &mut [u8],
+) -> io::Result<()>
     requires in_bounds { 131072 ≤ length memory.old }
     requires in_bounds_2 { 32 ≤ length tallies.old }
     requires in_bounds_3 { 4096 ≤ length out.old }
 {
-    let t = carttrace_lib::finish(pieces(text, memory, tallies, out), memory, tallies, out);
-    show(t, out);
+    let session = pieces(rt, text, memory, tallies, out)?;
+    let t = carttrace_lib::finish(session, memory, tallies, out);
+    show(rt, t, out)?;
+    Ok(())
 }
 
 // A file of at most 4,096 bytes.
-fn case(k: usize) {
-    let mut path = io::buffer();
-    let n = os::arg(k, &mut path);
-    io::write_all(1, b"== ");
-    io::write_all(1, &path[..n]);
-    io::write_all(1, b"\n");
-    let fd = os::open_read(&path[..n]);
-    if fd < 0 {
-        os::fail(&path[..n]);
-        return;
-    }
-    let mut text = io::buffer();
-    let len = io::read_full(fd, &mut text);
-    libc::close(fd);
+fn case(rt: &impl Runtime, path: &[u8]) -> io::Result<()> {
+    rt.write_all(b"== ")?;
+    rt.write_all(path)?;
+    rt.write_all(b"\n")?;
+    let Some(mut file) = named_files::opened(rt, path)? else {
+        return Ok(());
+    };
+    let mut text = named_files::buffer();
+    let len = named_files::read_full(&mut file, &mut text)?;
     let mut memory = memory();
     let mut tallies = [0u16; 32];
-    let mut out = io::buffer();
-    run(&text[..len], &mut memory, &mut tallies, &mut out);
+    let mut out = named_files::buffer();
+    run(rt, &text[..len], &mut memory, &mut tallies, &mut out)
 }
 
-fn main() {
-    let count = os::arg_count();
-    let mut k: usize = 1;
-    while k < count {
-        case(k);
-        k += 1;
+fn main(rt: HostRuntime) -> io::Result<()> {
+    let mut path = named_files::buffer();
+    for k in 1..usize::MAX {
+        match named_files::argument(&rt, k, &mut path) {
+            Some(n) => case(&rt, &path[..n])?,
+            None => break,
+        }
     }
+    Ok(())
 }

@@ -2,7 +2,10 @@
 
 #![tactic(auto)]
 
-fn run(text: &[u8]) {
+use std::io;
+use std::rt::Runtime;
+
+fn run(rt: &impl Print, text: &[u8]) -> io::Result<()> {
     let mut list = cuttrace_lib::large_room();
     let mut memory = cuttrace_lib::room();
     let mut scratch = cuttrace_lib::room();
@@ -16,32 +19,29 @@ fn run(text: &[u8]) {
         &mut answers,
         &mut out,
     );
-    io::write_all(1, &out[..n]);
+    rt.write_all(&out[..n])
 }
 
 // A file that is longer than the longest trace is refused by its beginning.
-fn case(k: usize) {
-    let mut path = io::buffer();
-    let n = os::arg(k, &mut path);
-    io::write_all(1, b"== ");
-    io::write_all(1, &path[..n]);
-    io::write_all(1, b"\n");
-    let fd = os::open_read(&path[..n]);
-    if fd < 0 {
-        os::fail(&path[..n]);
-        return;
-    }
+fn case(rt: &impl Runtime, path: &[u8]) -> io::Result<()> {
+    rt.write_all(b"== ")?;
+    rt.write_all(path)?;
+    rt.write_all(b"\n")?;
+    let Some(mut file) = named_files::opened(rt, path)? else {
+        return Ok(());
+    };
     let mut text = cuttrace_lib::trace_room();
-    let len = io::read_full(fd, &mut text);
-    libc::close(fd);
-    run(&text[..len]);
+    let len = named_files::read_full(&mut file, &mut text)?;
+    run(rt, &text[..len])
 }
 
-fn main() {
-    let count = os::arg_count();
-    let mut k: usize = 1;
-    while k < count {
-        case(k);
-        k += 1;
+fn main(rt: HostRuntime) -> io::Result<()> {
+    let mut path = named_files::buffer();
+    for k in 1..usize::MAX {
+        match named_files::argument(&rt, k, &mut path) {
+            Some(n) => case(&rt, &path[..n])?,
+            None => break,
+        }
     }
+    Ok(())
 }

@@ -3,6 +3,7 @@ ghost use Rattle.std.specs.Prelude.{◌+◌, ◌≤◌, length};
 
 use crate::{print, print_kind, put};
 use kind::SaveType;
+use std::io;
 
 // 1 where both searches find the kind, else 0.
 fn both_find(place: usize, marker: &[u8], kind: SaveType) -> usize
@@ -36,46 +37,49 @@ fn hits(marker: &[u8], kind: SaveType, places: usize) -> usize
     hits
 }
 
-fn every_place(marker: &[u8], kind: SaveType)
+fn every_place(rt: &impl Print, marker: &[u8], kind: SaveType) -> io::Result<()>
     requires { length marker.now ≤ 192 }
 {
     let places = 193 - marker.len();
-    print(marker);
-    print(b" at every place of 192 bytes: both searches say ");
-    print_kind(kind);
-    print(b" at ");
-    io::print_decimal(1, hits(marker, kind, places) as u64);
-    print(b" of ");
-    io::print_decimal(1, places as u64);
-    print(b"\n");
+    print(rt, marker)?;
+    print(rt, b" at every place of 192 bytes: both searches say ")?;
+    print_kind(rt, kind)?;
+    print(rt, b" at ")?;
+    rt.print(hits(marker, kind, places) as u64)?;
+    print(rt, b" of ")?;
+    rt.print(places as u64)?;
+    print(rt, b"\n")
 }
 
-fn print_count(place: usize)
+fn print_count(rt: &impl Print, place: usize) -> io::Result<()>
     requires { place + 6 ≤ 192 }
 {
     let mut image = [0u8; 192];
     put(&mut image, place, b"SRAM_V");
     let found = matcher::search(&image);
-    print(b" ");
-    io::print_decimal(1, found.count as u64);
+    print(rt, b" ")?;
+    rt.print(found.count as u64)
 }
 
 // The reading ends just behind the marker.
-fn sram_counts() {
-    print(b"SRAM_V at every place of 192 bytes: single reading after");
+fn sram_counts(rt: &impl Print) -> io::Result<()> {
+    print(
+        rt,
+        b"SRAM_V at every place of 192 bytes: single reading after",
+    )?;
     let mut place: usize = 0;
     while place < 187 {
-        print_count(place);
+        print_count(rt, place)?;
         place += 1;
     }
-    print(b"\n");
+    print(rt, b"\n")
 }
 
-pub fn places() {
-    every_place(b"SRAM_V", SaveType::Sram);
-    sram_counts();
-    every_place(b"FLASH_V", SaveType::Flash64);
-    every_place(b"FLASH512_V", SaveType::Flash64);
-    every_place(b"FLASH1M_V", SaveType::Flash128);
-    every_place(b"EEPROM_V", SaveType::Eeprom512);
+pub fn places(rt: &impl Print) -> io::Result<()> {
+    every_place(rt, b"SRAM_V", SaveType::Sram)?;
+    sram_counts(rt)?;
+    every_place(rt, b"FLASH_V", SaveType::Flash64)?;
+    every_place(rt, b"FLASH512_V", SaveType::Flash64)?;
+    every_place(rt, b"FLASH1M_V", SaveType::Flash128)?;
+    every_place(rt, b"EEPROM_V", SaveType::Eeprom512)
 }

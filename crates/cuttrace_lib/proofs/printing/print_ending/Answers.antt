@@ -11,7 +11,7 @@ pub slice_bounds-print_file-end : goal.slice_bounds-print_file-end
 slice_bounds-print_file-end c = sym (length-take-le (5 + c.args.memory) c.args.ending.now (omega (arith, c.requires.ending_len)))
 
 pub print_file-n-requires : goal.print_file-n-requires
-print_file-n-requires c = let l = length-take-le (5 + c.args.memory) c.args.ending.now (omega (arith, c.requires.ending_len)) in (omega (arith, l), omega (arith, l, c.requires))
+print_file-n-requires c = let l = length-take-le (5 + c.args.memory) c.args.ending.now (omega (arith, c.requires.ending_len)) in record { in_bounds = omega (arith, l); answer_in_bounds = omega (arith, l, c.requires) }
 
 pub slice_bounds-print_state-count-2 : goal.slice_bounds-print_state-count-2
 slice_bounds-print_state-count-2 c = omega (arith, c.print_file-n.ensures.0, file-fits c.args.memory c.args.ending.now c.requires.ending_len, c.out-1.given, c.requires)
@@ -25,7 +25,7 @@ print_state-requires c =
     let a = s.args in
     let f = c.print_file-n in
     let l = part-long a.ending.now (5 + a.memory) in
-    (omega (arith, l, s.requires.ending_len), omega (arith, l, part-long f.new.out f.result, f.ensures.0, file-fits a.memory a.ending.now s.requires.ending_len, c.out-1.given, s.requires))
+    record { answer_len = omega (arith, l, s.requires.ending_len); answer_in_bounds = omega (arith, l, part-long f.new.out f.result, f.ensures.0, file-fits a.memory a.ending.now s.requires.ending_len, c.out-1.given, s.requires) }
 
 pub overflow_add-result : goal.overflow_add-result
 overflow_add-result c =

@@ -9,7 +9,7 @@ use Rattle.cuttrace_lib.proofs.Prints.{Printed, print-start, out-length, here-fi
 use Rattle.cuttrace_lib.proofs.printing.print_lines.Goals as goal
 
 pub loop-i-init : goal.loop-i-init
-loop-i-init c = let p = c.requires.text_len_bound_2 in print-start c.args.text.now c.args.memory c.args.answers.now c.args.room.now c.args.out.now p.0 p.1.0 p.1.1
+loop-i-init c = print-start c.args.text.now c.args.memory c.args.answers.now c.args.room.now c.args.out.now c.requires.text_len_bound_2 c.requires.memory_in_bounds c.requires.text_in_bounds
 
 pub slice_bounds-line_length-count : goal.slice_bounds-line_length-count
 slice_bounds-line_length-count c = omega (arith, c.loop-i-test)
@@ -48,7 +48,7 @@ print_item-len-requires c =
     let a = c.args in
     let k = here-fits c.line_length.result c.read_line-item.result b.invariant (omega (arith, c.loop-i-test)) c.line_length.ensures.0 c.read_line-item.ensures.value in
     let l = piece-length b.at (b.at + r.result) r.result a.answers.now refl (omega (arith, r.ensures, k)) ∙ r.ensures in
-    (l, omega (arith, l, k, part-long b.out b.len, out-length b.invariant, b.invariant.len_ok, b.invariant.out_ok, c.loop-i-test))
+    record { answer_len = l; answer_in_bounds = omega (arith, l, k, part-long b.out b.len, out-length b.invariant, b.invariant.len_ok, b.invariant.out_ok, c.loop-i-test) }
 
 pub overflow_add-len : goal.overflow_add-len
 overflow_add-len c = let b = c.loop-i in let k = here-fits c.line_length.result c.read_line-item.result b.invariant (omega (arith, c.loop-i-test)) c.line_length.ensures.0 c.read_line-item.ensures.value in let answer = take (b.at + c.item_room.result - b.at) (drop b.at c.args.answers.now) in omega (arith, c.item_room.ensures, k, piece-length b.at (b.at + c.item_room.result) c.item_room.result c.args.answers.now refl (omega (arith, c.item_room.ensures, k)), c.print_item-len.ensures.0, item-short c.read_line-item.result answer, b.invariant.len_ok, b.invariant.out_ok, c.loop-i-test, c.well_formed)
@@ -87,7 +87,7 @@ print_ending-requires c =
     let r = c.ending_room in
     let a = c.args in
     let l = piece-length b.at (b.at + r.result) r.result a.answers.now refl (omega (arith, r.ensures, b.invariant.at_ok)) ∙ r.ensures in
-    (l, omega (arith, l, part-long b.out b.len, out-length b.invariant, b.invariant.len_ok, b.invariant.at_ok, b.invariant.out_ok, b.invariant.place_ok))
+    record { ending_len = l; ending_in_bounds = omega (arith, l, part-long b.out b.len, out-length b.invariant, b.invariant.len_ok, b.invariant.at_ok, b.invariant.out_ok, b.invariant.place_ok) }
 
 pub overflow_add-result : goal.overflow_add-result
 overflow_add-result c =

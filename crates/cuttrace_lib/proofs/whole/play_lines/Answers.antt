@@ -29,7 +29,7 @@ returns-then-refusal-ne0 c = let a = c.args in
 
 pub print_all-requires : goal.print_all-requires
 print_all-requires c = let a = c.args in let p = c.requires in
-    (p.text_len_bound, (omega (arith, c.list-1.given, p.text_bound), (answers-held a.kind (lines_from [] a.text.now) a.memory.now a.scratch.now a.answers.now _ _ c.memory_size-n.result c.gbasave_replay-refusal.result _ _ _ c.put_image.ensures c.put_list-used.ensures.room_after c.memory_size-n.ensures c.gbasave_replay-refusal.ensures c.if-refusal-ne0.false c.answers-1.given (omega (arith, memory-small a.kind, p.in_bounds)), omega (arith, c.answers-1.given, p.text_in_bounds))))
+    record { text_len_bound = p.text_len_bound; text_len_bound_2 = omega (arith, c.list-1.given, p.text_bound); kind_in_bounds = answers-held a.kind (lines_from [] a.text.now) a.memory.now a.scratch.now a.answers.now _ _ c.memory_size-n.result c.gbasave_replay-refusal.result _ _ _ c.put_image.ensures c.put_list-used.ensures.room_after c.memory_size-n.ensures c.gbasave_replay-refusal.ensures c.if-refusal-ne0.false c.answers-1.given (omega (arith, memory-small a.kind, p.in_bounds)); text_in_bounds = omega (arith, c.answers-1.given, p.text_in_bounds) }
 
 pub returns : goal.returns
 returns c = let a = c.args in
