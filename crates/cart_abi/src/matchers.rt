@@ -5,35 +5,27 @@ ghost use Rattle.c_matcher_calls.specs.Calls.{searches, starts, feeds, finishes}
 
 use c_matcher_calls::MatcherBytes;
 
-#[unsafe(no_mangle)]
-pub extern "C" fn gbasave_search(image: &[u8], kind: &mut u32, handed: &mut u32) -> u32
+pub fn gbasave_search(image: &[u8], kind: &mut u32, handed: &mut u32) -> u32
     ensures { (result, kind.new, handed.new)
         ≡ searches image.now kind.old handed.old }
 {
     c_matcher_calls::search(image, kind, handed)
 }
 
-#[unsafe(no_mangle)]
-pub extern "C" fn gbasave_matcher_start(matcher: &mut MatcherBytes) -> u32
+pub fn gbasave_matcher_start(matcher: &mut MatcherBytes) -> u32
     ensures { (result, matcher.new) ≡ starts }
 {
     c_matcher_calls::start(matcher)
 }
 
-#[unsafe(no_mangle)]
-pub extern "C" fn gbasave_matcher_feed(
-    matcher: &mut MatcherBytes,
-    piece: &[u8],
-    done: &mut u32,
-) -> u32
+pub fn gbasave_matcher_feed(matcher: &mut MatcherBytes, piece: &[u8], done: &mut u32) -> u32
     ensures { (result, matcher.new, done.new)
         ≡ feeds matcher.old piece.now done.old }
 {
     c_matcher_calls::feed(matcher, piece, done)
 }
 
-#[unsafe(no_mangle)]
-pub extern "C" fn gbasave_matcher_finish(
+pub fn gbasave_matcher_finish(
     matcher: &MatcherBytes,
     header: &[u8],
     length: usize,

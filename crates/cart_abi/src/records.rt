@@ -7,21 +7,14 @@ ghost use Rattle.c_record.specs.Calls.{tells_blank, tells_in_use};
 use c_record::RecordBytes;
 use chip_record::StateBytes;
 
-#[unsafe(no_mangle)]
-pub extern "C" fn gbasave_save_read(
-    cart: &RecordBytes,
-    memory: &[u8],
-    address: u32,
-    value: &mut u32,
-) -> u32
+pub fn gbasave_save_read(cart: &RecordBytes, memory: &[u8], address: u32, value: &mut u32) -> u32
     ensures { (result, cart.now, memory.now, value.new)
         ≡ reads address cart.now memory.now value.old }
 {
     c_byte_calls::save_read(cart, memory, address, value)
 }
 
-#[unsafe(no_mangle)]
-pub extern "C" fn gbasave_save_write(
+pub fn gbasave_save_write(
     cart: &mut RecordBytes,
     memory: &mut [u8],
     tallies: &mut [u16],
@@ -36,15 +29,13 @@ pub extern "C" fn gbasave_save_write(
     c_byte_calls::save_write(cart, memory, tallies, address, value, changed)
 }
 
-#[unsafe(no_mangle)]
-pub extern "C" fn gbasave_eeprom_begin_dma(cart: &mut RecordBytes, words: u32) -> u32
+pub fn gbasave_eeprom_begin_dma(cart: &mut RecordBytes, words: u32) -> u32
     ensures { (m : List ℕ) → (result, cart.new, m) ≡ announces words cart.old m }
 {
     c_serial_calls::eeprom_begin_dma(cart, words)
 }
 
-#[unsafe(no_mangle)]
-pub extern "C" fn gbasave_eeprom_write(
+pub fn gbasave_eeprom_write(
     cart: &mut RecordBytes,
     memory: &mut [u8],
     tallies: &mut [u16],
@@ -58,16 +49,14 @@ pub extern "C" fn gbasave_eeprom_write(
     c_serial_calls::eeprom_write(cart, memory, tallies, value, changed)
 }
 
-#[unsafe(no_mangle)]
-pub extern "C" fn gbasave_eeprom_read(cart: &mut RecordBytes, memory: &[u8], bit: &mut u32) -> u32
+pub fn gbasave_eeprom_read(cart: &mut RecordBytes, memory: &[u8], bit: &mut u32) -> u32
     ensures { (result, cart.new, memory.now, bit.new)
         ≡ gives_bit cart.old memory.now bit.old }
 {
     c_serial_calls::eeprom_read(cart, memory, bit)
 }
 
-#[unsafe(no_mangle)]
-pub extern "C" fn gbasave_load_save(
+pub fn gbasave_load_save(
     cart: &mut RecordBytes,
     memory: &mut [u8],
     tallies: &mut [u16],
@@ -82,8 +71,7 @@ pub extern "C" fn gbasave_load_save(
 }
 
 // Kind None has no file: the length is then 0.
-#[unsafe(no_mangle)]
-pub extern "C" fn gbasave_save_data(
+pub fn gbasave_save_data(
     cart: &RecordBytes,
     memory: &[u8],
     destination: &mut [u8],
@@ -95,8 +83,7 @@ pub extern "C" fn gbasave_save_data(
     c_file_calls::save_data(cart, memory, destination, length)
 }
 
-#[unsafe(no_mangle)]
-pub extern "C" fn gbasave_import_save(
+pub fn gbasave_import_save(
     cart: &mut RecordBytes,
     memory: &mut [u8],
     tallies: &mut [u16],
@@ -118,8 +105,7 @@ pub extern "C" fn gbasave_import_save(
     c_file_calls::import_save(cart, memory, tallies, file, kept, changed)
 }
 
-#[unsafe(no_mangle)]
-pub extern "C" fn gbasave_from_bytes(
+pub fn gbasave_from_bytes(
     cart: &mut RecordBytes,
     image: &[u8],
     part: u32,
@@ -132,8 +118,7 @@ pub extern "C" fn gbasave_from_bytes(
     c_state_calls::from_bytes(cart, image, part, memory, tallies)
 }
 
-#[unsafe(no_mangle)]
-pub extern "C" fn gbasave_chip_state(cart: &RecordBytes, bytes: &mut StateBytes) -> u32
+pub fn gbasave_chip_state(cart: &RecordBytes, bytes: &mut StateBytes) -> u32
     ensures { (m : List ℕ)
         → (result, cart.now, m, bytes.new)
         ≡ gives_state cart.now m bytes.old }
@@ -141,49 +126,39 @@ pub extern "C" fn gbasave_chip_state(cart: &RecordBytes, bytes: &mut StateBytes)
     c_state_calls::chip_state(cart, bytes)
 }
 
-#[unsafe(no_mangle)]
-pub extern "C" fn gbasave_restore_chip_state(cart: &mut RecordBytes, bytes: &[u8]) -> u32
+pub fn gbasave_restore_chip_state(cart: &mut RecordBytes, bytes: &[u8]) -> u32
     ensures { (m : List ℕ) → (result, cart.new, m) ≡ restores bytes.now cart.old m }
 {
     c_state_calls::restore_chip_state(cart, bytes)
 }
 
-#[unsafe(no_mangle)]
-pub extern "C" fn gbasave_take_save_dirty(cart: &mut RecordBytes, flag: &mut u32) -> u32
+pub fn gbasave_take_save_dirty(cart: &mut RecordBytes, flag: &mut u32) -> u32
     ensures { (m : List ℕ)
         → (result, cart.new, m, flag.new) ≡ takes_flag cart.old m flag.old }
 {
     c_state_calls::take_save_dirty(cart, flag)
 }
 
-#[unsafe(no_mangle)]
-pub extern "C" fn gbasave_uses_eeprom(cart: &RecordBytes, answer: &mut u32) -> u32
+pub fn gbasave_uses_eeprom(cart: &RecordBytes, answer: &mut u32) -> u32
     ensures { (result, answer.new) ≡ tells_eeprom cart.now answer.old }
 {
     c_state_calls::uses_eeprom(cart, answer)
 }
 
-#[unsafe(no_mangle)]
-pub extern "C" fn gbasave_eeprom_window_start(cart: &RecordBytes, start: &mut u32) -> u32
+pub fn gbasave_eeprom_window_start(cart: &RecordBytes, start: &mut u32) -> u32
     ensures { (result, start.new) ≡ tells_window cart.now start.old }
 {
     c_state_calls::eeprom_window_start(cart, start)
 }
 
-#[unsafe(no_mangle)]
-pub extern "C" fn gbasave_is_blank(cart: &RecordBytes, tallies: &[u16], blank: &mut u32) -> u32
+pub fn gbasave_is_blank(cart: &RecordBytes, tallies: &[u16], blank: &mut u32) -> u32
     ensures { (result, blank.new)
         ≡ tells_blank cart.now tallies.now blank.old }
 {
     c_state_calls::is_blank(cart, tallies, blank)
 }
 
-#[unsafe(no_mangle)]
-pub extern "C" fn gbasave_first_in_use(
-    cart: &RecordBytes,
-    tallies: &[u16],
-    stretch: &mut u32,
-) -> u32
+pub fn gbasave_first_in_use(cart: &RecordBytes, tallies: &[u16], stretch: &mut u32) -> u32
     ensures { (result, stretch.new)
         ≡ tells_in_use cart.now tallies.now stretch.old }
 {

@@ -2,8 +2,7 @@
 ghost use Rattle.std.specs.Prelude.{◌≡◌};
 ghost use Rattle.cart_abi.specs.Version.{version};
 
-#[unsafe(no_mangle)]
-pub extern "C" fn gbasave_version() -> u32
+pub fn gbasave_version() -> u32
     ensures { result ≡ version }
 {
     700

@@ -1,5 +1,5 @@
 -- A call's answer, where its questions are answered. Assumes nothing.
-use Rattle.std.proofs.Common.{◌≡◌, ℕ, suc, ◌+◌, ◌*◌, ◌<◌, ◌≤◌, Bool, true, false, not, List, [], ◌∷◌, length, get_or, sym, ap, ◌∙◌, add-one, arith, le-leb}
+use Rattle.std.proofs.Common.{◌≡◌, ℕ, suc, ◌+◌, ◌*◌, ◌<◌, ◌≤◌, Bool, true, false, List, [], ◌∷◌, length, get_or, sym, ap, ◌∙◌, add-one, arith, le-leb}
 use native.Mathlib.Numerals.{add-two, add-three}
 use borrow.Author.Tests.{lt-leb}
 use Rattle.lists.specs.Lists.{low_value}

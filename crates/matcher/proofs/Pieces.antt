@@ -1,7 +1,7 @@
 -- Pieces handed over one after another are the joined piece. Assumes nothing.
 use mathlib.Core.Path.{◌≡◌, refl, sym, ap, ◌∙◌}
 use mathlib.Core.List.{List, [], ◌∷◌, ◌++◌, flatten}
-use Prim.Native.Nat.{ℕ, ◌+◌}
+use Prim.Native.Nat.{ℕ}
 use lib.ListN.{length}
 use Rattle.lists.proofs.Bools.{cases}
 use Rattle.matcher.specs.declared.Matcher.{Matcher}

@@ -1,4 +1,4 @@
-// The call that a C program links.
+// The call of a C program, which links it by `replay_c`.
 ghost use Rattle.std.specs.Prelude.{◌≡◌, length};
 ghost use Rattle.lists.specs.Questions.{asked};
 ghost use Rattle.replay.specs.Replay.{replay_questions, replay};
@@ -32,8 +32,7 @@ fn room() -> [u16; 32]
 }
 
 // Returns 0 or a refusal's number. A refused call changes nothing.
-#[unsafe(no_mangle)]
-pub extern "C" fn gbasave_replay(
+pub fn gbasave_replay(
     image: &[u8],
     part: u32,
     list: &[u8],

@@ -1,9 +1,6 @@
 -- `lists::all_ff` meets its contract. The invariant: the first i bytes are FFh. Assumes nothing.
-use mathlib.Core.Path.{◌≡◌, refl, sym, ◌∙◌}
-use Prim.Native.Nat.{◌-◌, ◌≤◌}
+use mathlib.Core.Path.{refl, sym, ◌∙◌}
 use native.Mathlib.Omega.{arith}
-use lib.ListN.{length, drop}
-use Rattle.lists.specs.Lists.{all_ff}
 use Rattle.lists.proofs.Erased.{ff-here, other-here, ff-end}
 use Rattle.lists.proofs.all_ff.Goals as goal
 

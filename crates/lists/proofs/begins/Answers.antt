@@ -1,9 +1,7 @@
 -- `lists::begins` meets its contract. The invariant: the first i bytes are the same. Assumes nothing.
-use mathlib.Core.Path.{◌≡◌, refl, sym, ◌∙◌}
-use Prim.Native.Nat.{◌-◌, ◌≤◌}
+use mathlib.Core.Path.{refl, sym, ◌∙◌}
 use native.Mathlib.Omega.{arith}
-use lib.ListN.{length, drop}
-use Rattle.lists.specs.Lists.{begins}
+use lib.ListN.{drop}
 use Rattle.lists.proofs.Fronts.{begins-short, byte-same, byte-other, begins-all}
 use Rattle.lists.proofs.begins.Goals as goal
 

@@ -1,10 +1,8 @@
 -- `lists::begins` meets its contract. The invariant: the first i bytes are the same. Assumes nothing.
-use mathlib.Core.Path.{◌≡◌, refl, sym, ◌∙◌}
+use mathlib.Core.Path.{◌≡◌}
 use Prim.Native.Nat.{◌-◌, ◌≤◌}
-use native.Mathlib.Omega.{arith}
 use lib.ListN.{length, drop}
 use Rattle.lists.specs.Lists.{begins}
-use Rattle.lists.proofs.Fronts.{begins-short, byte-same, byte-other, begins-all}
 use Rattle.lists.proofs.begins.Given as goal
 
 abbrev pub invariant-loop-i : goal.invariant-loop-i

@@ -1,9 +1,7 @@
 -- `lists::copy` meets its contract. The invariant: the first i bytes are the output's, the others as they were. Assumes nothing.
-use mathlib.Core.Path.{◌≡◌, refl, ◌∙◌}
-use Prim.Native.Nat.{◌≤◌, ◌-◌}
+use mathlib.Core.Path.{refl, ◌∙◌}
 use native.Mathlib.Omega.{arith}
-use mathlib.Core.List.{◌++◌}
-use lib.ListN.{length, take, drop, length-set}
+use lib.ListN.{length-set}
 use Rattle.lists.proofs.Parts.{copy_more, copy-all}
 use Rattle.lists.proofs.copy.Goals as goal
 

@@ -1,9 +1,7 @@
 -- `title::replace` meets its contract. The invariant: what is written, with the replacement of what is left, is the whole. Assumes nothing.
-use Rattle.title.proofs.Texts.{used-least, used-most, len-most, behind-length, turn, none_left}
-use mathlib.Core.Path.{◌≡◌, refl, ◌∙◌}
+use mathlib.Core.Path.{◌≡◌}
 use mathlib.Core.List.{◌++◌}
 use Prim.Native.Nat.{◌+◌, ◌*◌, ◌≤◌}
-use native.Mathlib.Omega.{arith}
 use lib.ListN.{length, take}
 use Rattle.title.specs.Title.{replaced}
 use Rattle.title.proofs.replace.Given as goal

@@ -1,10 +1,8 @@
 -- `title::trim` meets its contract. The invariant: what goes from the n bytes goes from the first k. Assumes nothing.
-use mathlib.Core.Path.{◌≡◌, refl, ◌∙◌}
+use mathlib.Core.Path.{◌≡◌}
 use Prim.Native.Nat.{◌≤◌}
-use native.Mathlib.Omega.{arith}
 use lib.ListN.{take}
 use Rattle.title.specs.Title.{trimmed}
-use Rattle.title.proofs.Texts.{trim-none, trim-zero, trim_end}
 use Rattle.title.proofs.trim.Given as goal
 
 abbrev pub invariant-loop-k : goal.invariant-loop-k

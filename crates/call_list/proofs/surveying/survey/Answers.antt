@@ -1,10 +1,6 @@
 use Rattle.lists.proofs.Parts.{length_rest}
-use mathlib.Core.Path.{◌≡◌, refl}
-use Prim.Native.Nat.{◌-◌, ◌≤◌}
+use mathlib.Core.Path.{refl}
 use native.Mathlib.Omega.{arith}
-use lib.ListN.{length, drop}
-use Rattle.call_list.specs.Items.{items}
-use Rattle.call_list.specs.Surveys.{surveyed_all}
 use Rattle.call_list.proofs.Places.{takes-some}
 use Rattle.call_list.proofs.Surveys.{survey-more, survey-end}
 use Rattle.call_list.proofs.surveying.survey.Goals as goal

@@ -1,10 +1,9 @@
 use mathlib.Core.Path.{◌≡◌}
-use Prim.Native.Nat.{◌-◌}
 use native.Mathlib.Omega.{arith}
 use lib.ListN.{length, get_or, length-drop}
 use Rattle.lists.proofs.Parts.{rest}
 use Rattle.carttrace_lib.specs.Session.{buffers, took}
-use Rattle.carttrace_lib.proofs.Feeding.{Fed, fed-start, out-length, fed-more, fed-all}
+use Rattle.carttrace_lib.proofs.Feeding.{fed-start, out-length, fed-more, fed-all}
 use Rattle.carttrace_lib.proofs.Short.{took-short}
 use Rattle.carttrace_lib.proofs.characters.feed.Goals as goal
 

@@ -1,11 +1,7 @@
-use mathlib.Core.Path.{◌≡◌}
 use Prim.Native.Nat.{◌-◌}
-use native.Mathlib.Omega.{arith}
-use lib.ListN.{length, get_or, length-drop}
-use Rattle.lists.proofs.Parts.{rest}
-use Rattle.carttrace_lib.specs.Session.{buffers, took}
-use Rattle.carttrace_lib.proofs.Feeding.{Fed, fed-start, out-length, fed-more, fed-all}
-use Rattle.carttrace_lib.proofs.Short.{took-short}
+use lib.ListN.{length}
+use Rattle.carttrace_lib.specs.Session.{buffers}
+use Rattle.carttrace_lib.proofs.Feeding.{Fed}
 use Rattle.carttrace_lib.proofs.characters.feed.Given as goal
 
 abbrev pub invariant-loop-i : goal.invariant-loop-i

@@ -1,9 +1,5 @@
 -- `counts::counting::differing_short` meets its contract. Assumes nothing.
-use mathlib.Core.Path.{◌≡◌}
-use Prim.Native.Nat.{◌+◌, ◌-◌, ◌≤◌}
 use native.Mathlib.Omega.{arith}
-use lib.ListN.{length, drop}
-use Rattle.counts.specs.Counts.{differing}
 use Rattle.counts.proofs.Counts.{differing-le, differing-next, differing-end}
 use Rattle.counts.proofs.counting.differing_short.Goals as goal
 

@@ -1,10 +1,8 @@
 -- `counts::counting::used` meets its contract. The invariant is that of `differing`. Assumes nothing.
 use mathlib.Core.Path.{◌≡◌}
 use Prim.Native.Nat.{◌+◌, ◌-◌, ◌≤◌}
-use native.Mathlib.Omega.{arith}
-use lib.ListN.{length, drop, length-take, length-drop}
+use lib.ListN.{length, drop}
 use Rattle.counts.specs.Counts.{used}
-use Rattle.counts.proofs.Counts.{used_le, used-on, used-end}
 use Rattle.counts.proofs.counting.used.Given as goal
 
 abbrev pub invariant-loop-i : goal.invariant-loop-i

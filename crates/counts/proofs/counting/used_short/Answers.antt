@@ -1,9 +1,5 @@
 -- `counts::counting::used_short` meets its contract. Assumes nothing.
-use mathlib.Core.Path.{◌≡◌}
-use Prim.Native.Nat.{◌+◌, ◌-◌, ◌≤◌}
 use native.Mathlib.Omega.{arith}
-use lib.ListN.{length, drop}
-use Rattle.counts.specs.Counts.{used}
 use Rattle.counts.proofs.Counts.{used_le, used-next, used-end}
 use Rattle.counts.proofs.counting.used_short.Goals as goal
 

@@ -1,10 +1,9 @@
 -- `counts::tallies::first_in_use` meets its contract: no tally before k is in use. Assumes nothing.
-use mathlib.Core.Path.{◌≡◌, sym, ap, ◌∙◌}
-use Prim.Native.Nat.{◌+◌, ◌-◌, ◌≤◌}
-use native.Mathlib.Omega.{arith}
+use mathlib.Core.Path.{◌≡◌}
+use Prim.Native.Nat.{◌-◌, ◌≤◌}
 use lib.ListN.{length, drop}
-use Rattle.counts.specs.Tallies.{first_in_use, in_use_number}
-use Rattle.counts.proofs.Answers.{ahead, ahead-0, ahead-next, first_next, first-here, first-end}
+use Rattle.counts.specs.Tallies.{first_in_use}
+use Rattle.counts.proofs.Answers.{ahead}
 use Rattle.counts.proofs.tallies.first_in_use.Given as goal
 
 abbrev pub invariant-loop-k : goal.invariant-loop-k

@@ -1,13 +1,9 @@
 -- `crc::blocks::over_bytes` meets its contract: the register is the fold over the bytes so far. Assumes nothing.
-use mathlib.Core.Path.{◌≡◌, refl, ap, ◌∙◌}
-use Prim.Native.Nat.{ℕ, ◌+◌, ◌-◌, ◌≤◌}
-use native.Mathlib.Omega.{arith}
-use lib.Bits.{bit_xor}
-use lib.ListN.{length, get_or, take, drop, length-drop}
-use lib.Seq.{take-length, length-take-le}
+use mathlib.Core.Path.{◌≡◌}
+use Prim.Native.Nat.{◌-◌, ◌≤◌}
+use lib.ListN.{length, take}
 use Rattle.lists.specs.Lists.{fold}
-use Rattle.crc.specs.Crc.{crc_bits, crc_byte}
-use Rattle.crc.proofs.Folds.{fold-take, fold_next}
+use Rattle.crc.specs.Crc.{crc_byte}
 use Rattle.crc.proofs.blocks.over_bytes.Given as goal
 
 abbrev pub invariant-loop-i : goal.invariant-loop-i

@@ -1,9 +1,7 @@
 -- `crc::lanes::lane_ends` meets its contract: each register is the fold over its lane's bytes so far. Assumes nothing.
-use mathlib.Core.Path.{◌≡◌, ap, ◌∙◌}
+use mathlib.Core.Path.{◌≡◌}
 use Prim.Native.Nat.{◌-◌, ◌≤◌, ◌%◌}
-use native.Mathlib.Omega.{arith}
 use Rattle.crc.specs.Lanes.{lane_ends}
-use Rattle.crc.proofs.Rounds.{none_yet, round, four-on, four-fits}
 use Rattle.crc.proofs.lanes.lane_ends.Given as goal
 
 abbrev pub invariant-loop-i : goal.invariant-loop-i

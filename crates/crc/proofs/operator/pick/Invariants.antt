@@ -1,12 +1,10 @@
 -- `crc::operator::pick` meets its contract: what is picked, and what the digits that are left pick, is the whole.
 -- Assumes nothing.
-use mathlib.Core.Path.{◌≡◌, refl, sym, ap, ◌∙◌}
-use Prim.Native.Nat.{ℕ, ◌+◌, ◌-◌, ◌≤◌, ◌/◌}
-use native.Mathlib.Omega.{arith}
+use mathlib.Core.Path.{◌≡◌}
+use Prim.Native.Nat.{◌-◌, ◌≤◌}
 use lib.Bits.{bit_xor}
 use lib.ListN.{drop}
 use Rattle.crc.specs.Operator.{picked}
-use Rattle.crc.proofs.Digits.{pick-on, pick_end}
 use Rattle.crc.proofs.operator.pick.Given as goal
 
 abbrev pub invariant-loop-i : goal.invariant-loop-i

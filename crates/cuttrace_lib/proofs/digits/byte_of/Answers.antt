@@ -6,12 +6,12 @@ use Rattle.cuttrace_lib.proofs.digits.byte_of.Goals as goal
 
 pub returns-then-x-ge16 : goal.returns-then-x-ge16
 unfolding byte_of
-returns-then-x-ge16 c = rw (le-ltb (value_of c.args.a) 16 (omega (arith, c.value_of_lem.ensures)))
+returns-then-x-ge16 c = rw (le-ltb (value_of c.args.a) 16 (omega (arith, c.value_of-x.ensures)))
 
 pub returns-then-y-ge16 : goal.returns-then-y-ge16
 unfolding byte_of
-returns-then-y-ge16 c = rw (lt-ltb (value_of c.args.a) 16 (omega (arith, c.value_of_lem.ensures, c.if-x-ge16.false)), le-ltb (value_of c.args.b) 16 (omega (arith, c.value_of-y.ensures, c.if-y-ge16.true)))
+returns-then-y-ge16 c = rw (lt-ltb (value_of c.args.a) 16 (omega (arith, c.value_of-x.ensures, c.if-x-ge16.false)), le-ltb (value_of c.args.b) 16 (omega (arith, c.value_of-y.ensures, c.if-y-ge16.true)))
 
 pub returns : goal.returns
 unfolding byte_of
-returns c = rw (lt-ltb (value_of c.args.a) 16 (omega (arith, c.value_of_lem.ensures, c.if-x-ge16.false)), lt-ltb (value_of c.args.b) 16 (omega (arith, c.value_of-y.ensures, c.if-y-ge16.false))) (omega (arith, c.value_of_lem.ensures, c.value_of-y.ensures))
+returns c = rw (lt-ltb (value_of c.args.a) 16 (omega (arith, c.value_of-x.ensures, c.if-x-ge16.false)), lt-ltb (value_of c.args.b) 16 (omega (arith, c.value_of-y.ensures, c.if-y-ge16.false))) (omega (arith, c.value_of-x.ensures, c.value_of-y.ensures))

@@ -42,7 +42,7 @@ pub loop-i-smaller : goal.loop-i-smaller
 loop-i-smaller c = omega (arith, c.line_length.ensures.1, part-long c.args.text.now c.loop-i.i, c.loop-i-test)
 
 pub loop-i-preserved : goal.loop-i-preserved
-loop-i-preserved c = collect-more c.line_length.result c.code_length-used.result c.read_line-item.result _ c.loop-i.invariant (omega (arith, c.loop-i-test)) c.line_length.ensures.0 c.line_length.ensures.1 c.read_line-item.ensures c.code_length-used.ensures c.room-1.given.0
+loop-i-preserved c = collect-more c.line_length.result c.code_length-used.result c.read_line-item.result _ c.loop-i.invariant (omega (arith, c.loop-i-test)) c.line_length.ensures.0 c.line_length.ensures.1 (c.read_line-item.ensures.value, (c.read_line-item.ensures.room_after, c.read_line-item.ensures.result_in_bounds)) c.code_length-used.ensures c.room-1.given.0
 
 pub shape_of-room : goal.shape_of-room
 shape_of-room c = c.loop-i.invariant.same_ok

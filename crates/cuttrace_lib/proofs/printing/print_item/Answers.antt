@@ -1,3 +1,4 @@
+use borrow.Enum.Refused.{opened}
 use mathlib.Core.Path.{ap, ◌∙◌}
 use Rattle.call_list.specs.Items.{item_room}
 use Rattle.cuttrace_lib.proofs.Answers.{shows, item-bad, item-state, item-other}
@@ -24,4 +25,4 @@ pub returns-in_default : goal.returns-in_default
 returns-in_default c =
     let a = c.args in
     let e = c.print_answer.ensures in
-    shows a.out.now (item-other a.item a.answer.now c.in_default.in_default-own.keys3) e.0 e.1
+    shows a.out.now (item-other a.item a.answer.now (opened c.in_default.in_default-own.keys3)) e.0 e.1

@@ -9,7 +9,7 @@ use Rattle.cuttrace_lib.proofs.Prints.{Printed, print-start, out-length, here-fi
 use Rattle.cuttrace_lib.proofs.printing.print_lines.Goals as goal
 
 pub loop-i-init : goal.loop-i-init
-loop-i-init c = let p = c.requires.text_len_bound_2 in print-start c.args.text.now c.args.memory c.args.answers.now c.args.room.now c.args.out.now p.0 p.1.0 p.1.1
+loop-i-init c = print-start c.args.text.now c.args.memory c.args.answers.now c.args.room.now c.args.out.now c.requires.text_len_bound_2 c.requires.memory_in_bounds c.requires.text_in_bounds
 
 pub slice_bounds-line_length-count : goal.slice_bounds-line_length-count
 slice_bounds-line_length-count c = omega (arith, c.loop-i-test)

@@ -28,8 +28,8 @@ pub slice_bounds-print_lines-start-2 : goal.slice_bounds-print_lines-start-2
 slice_bounds-print_lines-start-2 c = omega (arith, c.print_line-n.ensures.value, length-line 0 [], c.out-1.given, c.requires.text_in_bounds)
 
 pub print_lines-requires : goal.print_lines-requires
-print_lines-requires c = let p = c.requires.text_len_bound_2 in let a = part-long c.args.answers.now c.prelude_room-from.result in
-    record { text_len_bound = c.requires.text_len_bound; memory_bound = omega (arith, c.memory_size.ensures, memory-small c.args.kind); text_len_bound_2 = p.0; memory_in_bounds = omega (arith, a, c.prelude_room-from.ensures, c.memory_size.ensures, p.1.0); text_in_bounds = omega (arith, a, part-long c.print_line-n.new.out c.print_line-n.result, c.print_line-n.ensures.value, length-line 0 [], c.out-1.given, p.1.1) }
+print_lines-requires c = let a = part-long c.args.answers.now c.prelude_room-from.result in
+    record { text_len_bound = c.requires.text_len_bound; memory_bound = omega (arith, c.memory_size.ensures, memory-small c.args.kind); text_len_bound_2 = c.requires.text_len_bound_2; memory_in_bounds = omega (arith, a, c.prelude_room-from.ensures, c.memory_size.ensures, c.requires.kind_in_bounds); text_in_bounds = omega (arith, a, part-long c.print_line-n.new.out c.print_line-n.result, c.print_line-n.ensures.value, length-line 0 [], c.out-1.given, c.requires.text_in_bounds) }
 
 pub overflow_add-result : goal.overflow_add-result
 overflow_add-result c = let o = c.print_line-n in let part = take (length o.new.out - o.result) (drop o.result o.new.out) in

@@ -1,10 +1,6 @@
-use mathlib.Core.Path.{◌≡◌, refl, ◌∙◌}
-use mathlib.Core.List.{◌∷◌}
-use Prim.Native.Nat.{◌+◌, ◌*◌, ◌-◌, ◌≤◌}
+use mathlib.Core.Path.{refl, ◌∙◌}
 use native.Mathlib.Omega.{arith}
-use lib.ListN.{length, take, length-set}
-use Rattle.lists.specs.Lists.{into}
-use Rattle.hex_text.specs.Hex.{hex}
+use lib.ListN.{length-set}
 use Rattle.frames.proofs.Printed.{status-stands, line-once, put_byte, put-end, length-line}
 use Rattle.frames.proofs.print.print_line.Goals as goal
 

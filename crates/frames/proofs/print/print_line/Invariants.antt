@@ -1,11 +1,9 @@
-use mathlib.Core.Path.{◌≡◌, refl, ◌∙◌}
+use mathlib.Core.Path.{◌≡◌}
 use mathlib.Core.List.{◌∷◌}
 use Prim.Native.Nat.{◌+◌, ◌*◌, ◌-◌, ◌≤◌}
-use native.Mathlib.Omega.{arith}
-use lib.ListN.{length, take, length-set}
+use lib.ListN.{length, take}
 use Rattle.lists.specs.Lists.{into}
 use Rattle.hex_text.specs.Hex.{hex}
-use Rattle.frames.proofs.Printed.{status-stands, line-once, put_byte, put-end, length-line}
 use Rattle.frames.proofs.print.print_line.Given as goal
 
 abbrev pub invariant-loop-i : goal.invariant-loop-i

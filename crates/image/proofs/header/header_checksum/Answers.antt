@@ -1,6 +1,5 @@
 -- `image::header::header_checksum` meets its contract. Assumes nothing.
 use Rattle.image.proofs.Answers.{header-no, header-yes}
-use Rattle.std.proofs.Common.{rules}
 use Rattle.image.proofs.header.header_checksum.Goals as goal
 
 pub returns-then-image-lt192 : goal.returns-then-image-lt192

@@ -1,5 +1,5 @@
 -- `image::header::header_sum` meets its contract: what is left to subtract, from the sum so far, gives the whole. Assumes nothing.
-use Rattle.std.proofs.Common.{◌≡◌, ℕ, ◌+◌, ◌-◌, ◌≤◌, sym, refl, ap, ◌∙◌, arith, rules}
+use Rattle.std.proofs.Common.{ℕ, ◌+◌, sym, refl, ap, ◌∙◌, arith}
 use lib.Seq.{slice}
 use Rattle.lists.specs.Lists.{fold}
 use Rattle.lists.proofs.Parts.{fold_on, fold_end}

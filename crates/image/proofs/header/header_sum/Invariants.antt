@@ -1,9 +1,8 @@
 -- `image::header::header_sum` meets its contract: what is left to subtract, from the sum so far, gives the whole. Assumes nothing.
-use Rattle.std.proofs.Common.{◌≡◌, ℕ, ◌+◌, ◌-◌, ◌≤◌, sym, refl, ap, ◌∙◌, arith, rules}
+use Rattle.std.proofs.Common.{◌≡◌, ◌-◌, ◌≤◌}
 use lib.Seq.{slice}
 use Rattle.lists.specs.Lists.{fold}
-use Rattle.lists.proofs.Parts.{fold_on, fold_end}
-use Rattle.image.specs.Image.{less, header_sum}
+use Rattle.image.specs.Image.{less}
 use Rattle.image.proofs.header.header_sum.Given as goal
 
 abbrev pub invariant-loop-i : goal.invariant-loop-i

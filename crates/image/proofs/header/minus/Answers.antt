@@ -1,4 +1,4 @@
-use Rattle.std.proofs.Common.{arith, rules}
+use Rattle.std.proofs.Common.{arith}
 use Rattle.image.specs.Image.{less}
 use Rattle.image.proofs.header.minus.Goals as goal
 

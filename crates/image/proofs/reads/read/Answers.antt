@@ -1,5 +1,5 @@
 -- `image::reads::read` meets its contract. Assumes nothing.
-use Rattle.std.proofs.Common.{◌∙◌, rules}
+use Rattle.std.proofs.Common.{◌∙◌}
 use Rattle.image.specs.Image.{read_at, read}
 use Rattle.image.proofs.Answers.{image-no, image-yes, read-1}
 use Rattle.image.proofs.reads.read.Goals as goal

@@ -1,5 +1,5 @@
 -- `image::reads::read32` meets its contract. Assumes nothing.
-use Rattle.std.proofs.Common.{◌∙◌, rules}
+use Rattle.std.proofs.Common.{◌∙◌}
 use Rattle.image.specs.Image.{read_at, read}
 use Rattle.image.proofs.Answers.{image-no, image-yes, read-4}
 use Rattle.image.proofs.reads.read32.Goals as goal

@@ -1,9 +1,7 @@
 -- `kind::header::begins` meets its contract. The invariant: the first i bytes are the same. Assumes nothing.
-use mathlib.Core.Path.{◌≡◌, refl, sym, ◌∙◌}
-use Prim.Native.Nat.{◌-◌, ◌≤◌}
+use mathlib.Core.Path.{refl, sym, ◌∙◌}
 use native.Mathlib.Omega.{arith}
-use lib.ListN.{length, drop}
-use Rattle.kind.specs.Kind.{begins}
+use lib.ListN.{drop}
 use Rattle.kind.proofs.Standing.{begins-short, byte-same, byte-other, begins-all}
 use Rattle.kind.proofs.header.begins.Goals as goal
 

@@ -2,10 +2,9 @@
 use Rattle.lists.proofs.Parts.{rest}
 use mathlib.Core.Path.{◌≡◌, refl, sym, ap, ◌∙◌}
 use mathlib.Core.Bool.{false}
-use Prim.Native.Nat.{◌-◌, ◌≤◌}
 use native.Mathlib.Omega.{arith}
-use lib.ListN.{length, drop, length-drop}
-use Rattle.kind.specs.Kind.{begins, stands}
+use lib.ListN.{drop, length-drop}
+use Rattle.kind.specs.Kind.{begins}
 use Rattle.kind.proofs.Standing.{stands-empty, stands-short, stands_here, stands_on, other-first}
 use Rattle.kind.proofs.markers.contains.Goals as goal
 use Rattle.kind.proofs.markers.contains.Goals.{then-s-i+else-begins, else-s-i}

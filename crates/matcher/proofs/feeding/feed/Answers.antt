@@ -1,11 +1,11 @@
 -- `matcher::feeding::feed` meets its contract: the bytes that are left, read from the present state, give the whole. Assumes nothing.
-use mathlib.Core.Path.{◌≡◌, subst, ◌∙◌}
+use mathlib.Core.Path.{subst, ◌∙◌}
 use mathlib.Core.List.{List}
-use Prim.Native.Nat.{ℕ, ◌-◌, ◌≤◌}
+use Prim.Native.Nat.{ℕ}
 use native.Mathlib.Omega.{arith}
-use lib.ListN.{length, drop}
+use lib.ListN.{drop}
 use Rattle.lists.proofs.Parts.{rest, length_rest}
-use Rattle.matcher.specs.Reading.{reads, more, Advanced}
+use Rattle.matcher.specs.Reading.{Advanced}
 use Rattle.matcher.proofs.Reading.{more-none, advance-on, read-end, read-stop}
 use Rattle.matcher.proofs.feeding.feed.Goals as goal
 

@@ -1,8 +1,8 @@
 -- `matcher::feeding::over_bytes` meets its contract: the bytes that are left, read from the present state, give the whole. Assumes nothing.
-use mathlib.Core.Path.{◌≡◌, ap, ◌∙◌}
-use Prim.Native.Nat.{◌+◌, ◌-◌, ◌≤◌}
+use mathlib.Core.Path.{ap, ◌∙◌}
+use Prim.Native.Nat.{◌+◌}
 use native.Mathlib.Omega.{arith}
-use lib.ListN.{length, drop}
+use lib.ListN.{drop}
 use Rattle.matcher.specs.declared.Matcher.{Matcher}
 use Rattle.matcher.specs.Reading.{reads, more}
 use Rattle.matcher.proofs.Reading.{more-none, read_one, read-end, read-stop}

@@ -1,10 +1,8 @@
 -- `matcher::quiet::pair_in` meets its contract. The invariant: a pair so far or in what is left, is a pair in all. Assumes nothing.
-use mathlib.Core.Path.{◌≡◌, refl, ◌∙◌}
-use mathlib.Core.Bool.{◌||◌}
-use Prim.Native.Nat.{◌+◌, ◌-◌, ◌≤◌}
+use mathlib.Core.Path.{refl, ◌∙◌}
+use Prim.Native.Nat.{◌+◌}
 use native.Mathlib.Omega.{arith}
-use lib.ListN.{get_or, drop}
-use Rattle.matcher.specs.Quiet.{pairs}
+use lib.ListN.{get_or}
 use Rattle.matcher.proofs.Pairs.{pairs-on, pairs_end}
 use Rattle.matcher.proofs.quiet.pair_in.Goals as goal
 

@@ -1,12 +1,10 @@
 -- `matcher::quiet::quiet_run` meets its contract. The invariant: no pair up to place n. Assumes nothing.
-use mathlib.Core.Path.{◌≡◌, refl, sym, ◌∙◌}
+use mathlib.Core.Path.{◌≡◌}
 use mathlib.Core.Logic.{◌≢◌}
 use mathlib.Core.Bool.{false}
 use Prim.Native.Nat.{◌+◌, ◌-◌, ◌≤◌}
-use native.Mathlib.Omega.{arith}
 use lib.ListN.{length, take}
 use Rattle.matcher.specs.Quiet.{pairs}
-use Rattle.matcher.proofs.Pairs.{pairs-join, pairs_first, window, quiet_none}
 use Rattle.matcher.proofs.quiet.quiet_run.Given as goal
 
 abbrev pub invariant-loop-n : goal.invariant-loop-n
