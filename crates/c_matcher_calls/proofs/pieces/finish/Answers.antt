@@ -20,14 +20,14 @@ returns-then-header-lt192 c =
     let a = c.args in
     header-no a.matcher.now a.header.now a.length a.kind.now
     (granted _ c.image_length.ensures c.if-not-image_length.false)
-    (lt-leb 192 (length a.header.now) c.if-header-lt192.true)
+    (lt-leb 192 (length a.header.now) (omega arith))
 
 pub returns-then-not-is_matcher : goal.returns-then-not-is_matcher
 returns-then-not-is_matcher c =
     let a = c.args in
     matcher-no a.matcher.now a.header.now a.length a.kind.now
     (granted _ c.image_length.ensures c.if-not-image_length.false)
-    (le-leb 192 (length a.header.now) (omega (arith, c.if-header-lt192.false)))
+    (le-leb 192 (length a.header.now) (omega arith))
     (denied _ c.is_matcher.ensures c.if-not-is_matcher.true)
 
 pub overflow_cast-kind : goal.overflow_cast-kind
@@ -38,7 +38,7 @@ returns c =
     let a = c.args in
     finished a.matcher.now a.header.now a.length a.kind.now
     (granted _ c.image_length.ensures c.if-not-image_length.false)
-    (le-leb 192 (length a.header.now) (omega (arith, c.if-header-lt192.false)))
+    (le-leb 192 (length a.header.now) (omega arith))
     (granted _ c.is_matcher.ensures c.if-not-is_matcher.false)
     c.finish.result
     (c.finish.ensures ∙ ap (λ (m : Matcher). kind_after a.header.now a.length m) c.matcher_of.ensures)

@@ -38,7 +38,7 @@ pub overflow_add-result : goal.overflow_add-result
 overflow_add-result c = omega (arith, c.loop-i-test, c.loop-i.invariant)
 
 pub shape_of-out : goal.shape_of-out
-shape_of-out c = length-set c.loop-i.out c.loop-i.end 10 ∙ c.loop-i.invariant.3 ∙ c.put_digits.ensures.out_len_unchanged
+shape_of-out c = length-set c.loop-i.out c.loop-i.end _ ∙ c.loop-i.invariant.3 ∙ c.put_digits.ensures.out_len_unchanged
 
 pub returns : goal.returns
 returns c =
