@@ -17,6 +17,7 @@ pub fn character(digit: u8) -> u8
 }
 
 // The value of a digit, and 16 for every other character.
+#[tactic(auto, using(lists::proofs::Bools::tests), unfolding(crate::specs::Hex::value_of))]
 pub fn value_of(c: u8) -> u8
     ensures { result ≡ value_of c }
 {

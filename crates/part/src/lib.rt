@@ -72,6 +72,7 @@ pub fn part_fits(part: Part, kind: SaveType) -> bool
 }
 
 // Of a part's number; one that names no part fits no kind.
+#[tactic(auto, using(lists::proofs::Bools::tests), unfolding(crate::specs::Part::number_fits))]
 pub fn number_fits(n: u32, kind: SaveType) -> bool
     ensures { result ≡ number_fits n kind }
 {

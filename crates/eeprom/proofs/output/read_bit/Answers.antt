@@ -1,7 +1,7 @@
 -- `eeprom::output::read_bit` meets its contract. Assumes nothing.
 use mathlib.Core.Path.{◌∙◌}
 use native.Mathlib.Omega.{arith}
-use borrow.Author.Tests.{not-true, not-false, lt-ltb, le-ltb}
+use borrow.Author.Tests.{lt-ltb, le-ltb}
 use Rattle.lists.proofs.Bools.{denied, granted}
 use Rattle.eeprom.specs.Eeprom.{read_bit}
 use Rattle.eeprom.proofs.output.read_bit.Goals as goal

@@ -5,10 +5,6 @@ use Rattle.file_sizes.proofs.doubled.file_door.Goals as goal
 pub returns-then-not-takes : goal.returns-then-not-takes
 returns-then-not-takes c = rw (denied _ c.takes.ensures c.if-not-takes.true)
 
--- 19 is asked of a length that was taken
-pub drop_accepted-requires : goal.drop_accepted-requires
-drop_accepted-requires c = granted _ c.takes.ensures c.if-not-takes.false
-
 pub returns-then-not-drop_accepted : goal.returns-then-not-drop_accepted
 returns-then-not-drop_accepted c =
     rw (granted _ c.takes.ensures c.if-not-takes.false, denied _ c.drop_accepted.ensures c.if-not-drop_accepted.true)

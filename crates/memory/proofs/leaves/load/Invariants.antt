@@ -1,12 +1,8 @@
 -- `memory::leaves::load` meets its contract, stretch by stretch. Assumes nothing.
-use mathlib.Core.Path.{◌≡◌, refl}
-use Prim.Native.Nat.{◌*◌, ◌-◌, ◌≤◌}
-use native.Mathlib.Omega.{arith}
+use mathlib.Core.Path.{◌≡◌}
+use Prim.Native.Nat.{◌-◌, ◌≤◌}
 use lib.ListN.{length}
-use Rattle.counts.proofs.Counts.{differing-le}
-use Rattle.memory.specs.Memory.{stored, filled}
-use Rattle.memory.proofs.Memory.{length-mid}
-use Rattle.memory.proofs.Loads.{Loaded, loaded-none, loaded_on, loaded-all, file-stretch-le}
+use Rattle.memory.proofs.Loads.{Loaded}
 use Rattle.memory.proofs.leaves.load.Given as goal
 
 abbrev pub invariant-loop-k : goal.invariant-loop-k

@@ -1,9 +1,8 @@
 -- `memory::parts::replace` meets its contract, short part by short part. Assumes nothing.
 use mathlib.Core.Path.{◌≡◌, refl}
-use Prim.Native.Nat.{◌-◌, ◌≤◌}
 use native.Mathlib.Omega.{arith}
 use lib.ListN.{length, length-take, length-drop}
-use Rattle.memory.proofs.Replaced.{Below, below_on, plus-le, below_all}
+use Rattle.memory.proofs.Replaced.{below_on, plus-le, below_all}
 use borrow.Author.Rules.{rules}
 use Rattle.memory.proofs.parts.replace.Goals as goal
 

@@ -1,9 +1,8 @@
 -- `memory::parts::replace` meets its contract, short part by short part. Assumes nothing.
-use mathlib.Core.Path.{◌≡◌, refl}
+use mathlib.Core.Path.{◌≡◌}
 use Prim.Native.Nat.{◌-◌, ◌≤◌}
-use native.Mathlib.Omega.{arith}
-use lib.ListN.{length, length-take, length-drop}
-use Rattle.memory.proofs.Replaced.{Below, below_on, plus-le, below_all}
+use lib.ListN.{length}
+use Rattle.memory.proofs.Replaced.{Below}
 use Rattle.memory.proofs.parts.replace.Given as goal
 
 abbrev pub invariant-loop-i : goal.invariant-loop-i
