@@ -7,7 +7,7 @@
 
 #![tactic(auto)]
 
-ghost use Rattle.std.specs.Prelude.{◌≤◌, length, IfOk};
+ghost use Rattle.std.specs.Prelude.{◌≡◌, ◌≤◌, length, IfOk, OnErr};
 
 use std::io;
 use std::io::Read;
@@ -30,14 +30,16 @@ fn run(rt: &impl Print, text: &[u8]) -> io::Result<()> {
 }
 
 fn read_piece(input: &mut impl Read, room: &mut [u8]) -> io::Result<usize>
-    ensures { IfOk result (λ n. n ≤ length room.old) }
+    ensures ok { IfOk result (λ n. n ≤ length room.old) }
+    ensures err { OnErr result (length room.new ≡ length room.old) }
 {
     input.read(room)
 }
 
 // Reads to the end of the input, or until the trace is refused whatever follows. Returns how many characters it read.
 fn read_trace(input: &mut impl Read, text: &mut [u8]) -> io::Result<usize>
-    ensures { IfOk result (λ n. n ≤ length text.old) }
+    ensures ok { IfOk result (λ n. n ≤ length text.old) }
+    ensures err { OnErr result (length text.new ≡ length text.old) }
 {
     let mut len = 0;
     while len < text.len() {

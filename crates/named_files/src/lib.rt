@@ -2,7 +2,7 @@
 
 #![tactic(auto)]
 
-ghost use Rattle.std.specs.Prelude.{◌≡◌, length, IfOk, IfSome};
+ghost use Rattle.std.specs.Prelude.{◌≡◌, length, IfOk, IfSome, OnErr};
 ghost use Rattle.named_files.specs.Counts.{IsPrefixLen};
 
 use std::env::FillError;
@@ -57,7 +57,8 @@ pub fn opened<R: Files + Eprint + Alloc>(rt: &R, path: &[u8]) -> io::Result<Opti
 
 // Reads until the room is full or the input ends, and returns how many bytes it put at the front.
 pub fn read_full(input: &mut impl Read, room: &mut [u8]) -> io::Result<usize>
-    ensures { IfOk result (λ n. IsPrefixLen n room.new) }
+    ensures ok { IfOk result (λ n. IsPrefixLen n room.new) }
+    ensures err { OnErr result (length room.new ≡ length room.old) }
 {
     let mut done = 0;
     while done < room.len() {

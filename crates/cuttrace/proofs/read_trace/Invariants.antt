@@ -1,9 +1,6 @@
-use mathlib.Core.Path.{◌≡◌, refl, sym, ◌∙◌}
+use mathlib.Core.Path.{◌≡◌}
 use Prim.Native.Nat.{◌≤◌, ◌-◌}
-use native.Mathlib.Omega.{arith}
 use lib.ListN.{length}
-use lib.Seq.{length-take-le}
-use Rattle.cuttrace_lib.proofs.Texts.{part-long}
 use Rattle.cuttrace.proofs.read_trace.Given as goal
 
 abbrev pub invariant-loop-len : goal.invariant-loop-len

@@ -1,8 +1,6 @@
-use mathlib.Core.Path.{◌≡◌, refl, ◌∙◌}
+use mathlib.Core.Path.{◌≡◌}
 use Prim.Native.Nat.{◌≤◌, ◌-◌}
-use native.Mathlib.Omega.{arith}
-use lib.ListN.{length, length-drop, drop}
-use lib.Seq.{length-take-le}
+use lib.ListN.{length}
 use Rattle.test_cases.proofs.pieces.Given as goal
 
 abbrev pub invariant-loop-i : goal.invariant-loop-i

@@ -1,9 +1,8 @@
-use mathlib.Core.Path.{◌≡◌, refl, ◌∙◌}
-use Prim.Native.Nat.{◌*◌, ◌/◌, ◌-◌, ◌≤◌}
+use mathlib.Core.Path.{refl, ◌∙◌}
+use Prim.Native.Nat.{◌/◌}
 use native.Mathlib.Omega.{arith}
-use lib.ListN.{length, take, drop, length-set}
-use Rattle.cuttrace_lib.specs.Lines.{unhex}
-use Rattle.cuttrace_lib.proofs.Unhex.{joined, joined-none, unhex-odd, unhex-more, unhex-stopped, unhex-all}
+use lib.ListN.{length, length-set}
+use Rattle.cuttrace_lib.proofs.Unhex.{joined-none, unhex-odd, unhex-more, unhex-stopped, unhex-all}
 use Rattle.cuttrace_lib.proofs.digits.put_bytes.Goals as goal
 
 pub returns-then-line-ne0 : goal.returns-then-line-ne0

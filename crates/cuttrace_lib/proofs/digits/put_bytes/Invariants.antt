@@ -1,9 +1,8 @@
-use mathlib.Core.Path.{◌≡◌, refl, ◌∙◌}
-use Prim.Native.Nat.{◌*◌, ◌/◌, ◌-◌, ◌≤◌}
-use native.Mathlib.Omega.{arith}
-use lib.ListN.{length, take, drop, length-set}
+use mathlib.Core.Path.{◌≡◌}
+use Prim.Native.Nat.{◌*◌, ◌-◌, ◌≤◌}
+use lib.ListN.{length, take, drop}
 use Rattle.cuttrace_lib.specs.Lines.{unhex}
-use Rattle.cuttrace_lib.proofs.Unhex.{joined, joined-none, unhex-odd, unhex-more, unhex-stopped, unhex-all}
+use Rattle.cuttrace_lib.proofs.Unhex.{joined}
 use Rattle.cuttrace_lib.proofs.digits.put_bytes.Given as goal
 
 abbrev pub invariant-loop-i : goal.invariant-loop-i

@@ -1,7 +1,7 @@
 use Prim.Native.Nat.{◌+◌, ◌-◌}
 use native.Mathlib.Omega.{arith}
-use lib.ListN.{length, drop, length-take, length-drop}
-use Rattle.cuttrace_lib.proofs.Codes.{Collected, collect-start, collect-more, collect-all}
+use lib.ListN.{drop, length-take, length-drop}
+use Rattle.cuttrace_lib.proofs.Codes.{collect-start, collect-more, collect-all}
 use Rattle.cuttrace_lib.proofs.Texts.{part-long}
 use Rattle.cuttrace_lib.proofs.lines.collect.Goals as goal
 

@@ -1,8 +1,6 @@
 use Prim.Native.Nat.{◌+◌, ◌-◌}
-use native.Mathlib.Omega.{arith}
-use lib.ListN.{length, drop, length-take, length-drop}
-use Rattle.cuttrace_lib.proofs.Codes.{Collected, collect-start, collect-more, collect-all}
-use Rattle.cuttrace_lib.proofs.Texts.{part-long}
+use lib.ListN.{length}
+use Rattle.cuttrace_lib.proofs.Codes.{Collected}
 use Rattle.cuttrace_lib.proofs.lines.collect.Given as goal
 
 abbrev pub invariant-loop-i : goal.invariant-loop-i

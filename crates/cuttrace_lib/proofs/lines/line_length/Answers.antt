@@ -1,8 +1,6 @@
-use mathlib.Core.Path.{◌≡◌, refl, sym}
-use Prim.Native.Nat.{◌+◌, ◌-◌, ◌≤◌}
+use mathlib.Core.Path.{refl, sym}
 use native.Mathlib.Omega.{arith}
 use native.Mathlib.Nat.{zero-add}
-use lib.ListN.{length, drop}
 use Rattle.cuttrace_lib.specs.Lines.{line_length}
 use Rattle.cuttrace_lib.proofs.Texts.{length_more, length_found, length-end}
 use Rattle.cuttrace_lib.proofs.lines.line_length.Goals as goal

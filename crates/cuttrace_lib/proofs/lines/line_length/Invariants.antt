@@ -1,10 +1,7 @@
-use mathlib.Core.Path.{◌≡◌, refl, sym}
+use mathlib.Core.Path.{◌≡◌}
 use Prim.Native.Nat.{◌+◌, ◌-◌, ◌≤◌}
-use native.Mathlib.Omega.{arith}
-use native.Mathlib.Nat.{zero-add}
 use lib.ListN.{length, drop}
 use Rattle.cuttrace_lib.specs.Lines.{line_length}
-use Rattle.cuttrace_lib.proofs.Texts.{length_more, length_found, length-end}
 use Rattle.cuttrace_lib.proofs.lines.line_length.Given as goal
 
 abbrev pub invariant-loop-i : goal.invariant-loop-i

@@ -1,11 +1,11 @@
 use mathlib.Core.Path.{refl, ◌∙◌}
 use Prim.Native.Nat.{◌+◌, ◌-◌}
 use native.Mathlib.Omega.{arith}
-use lib.ListN.{length, take, drop, length-take, length-drop}
+use lib.ListN.{take, drop, length-take, length-drop}
 use Rattle.replay.proofs.Pieces.{piece-length}
 use Rattle.cuttrace_lib.proofs.Texts.{part-long}
 use Rattle.cuttrace_lib.proofs.Answers.{item-short, ending-short}
-use Rattle.cuttrace_lib.proofs.Prints.{Printed, print-start, out-length, here-fits, print-more, print-all}
+use Rattle.cuttrace_lib.proofs.Prints.{print-start, out-length, here-fits, print-more, print-all}
 use Rattle.cuttrace_lib.proofs.printing.print_lines.Goals as goal
 
 pub loop-i-init : goal.loop-i-init

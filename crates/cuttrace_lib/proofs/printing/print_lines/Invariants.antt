@@ -1,11 +1,6 @@
-use mathlib.Core.Path.{refl, ◌∙◌}
 use Prim.Native.Nat.{◌+◌, ◌-◌}
-use native.Mathlib.Omega.{arith}
-use lib.ListN.{length, take, drop, length-take, length-drop}
-use Rattle.replay.proofs.Pieces.{piece-length}
-use Rattle.cuttrace_lib.proofs.Texts.{part-long}
-use Rattle.cuttrace_lib.proofs.Answers.{item-short, ending-short}
-use Rattle.cuttrace_lib.proofs.Prints.{Printed, print-start, out-length, here-fits, print-more, print-all}
+use lib.ListN.{length}
+use Rattle.cuttrace_lib.proofs.Prints.{Printed}
 use Rattle.cuttrace_lib.proofs.printing.print_lines.Given as goal
 
 abbrev pub invariant-loop-i : goal.invariant-loop-i

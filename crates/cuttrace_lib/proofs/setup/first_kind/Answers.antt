@@ -1,7 +1,5 @@
-use mathlib.Core.Path.{◌≡◌, refl, ap, ◌∙◌}
-use Prim.Native.Nat.{◌-◌, ◌≤◌}
+use mathlib.Core.Path.{refl, ap, ◌∙◌}
 use native.Mathlib.Omega.{arith}
-use lib.ListN.{length, drop}
 use Rattle.frames.specs.Frames.{pushed_all, first_in}
 use Rattle.frames.proofs.Lines.{first_said}
 use Rattle.cuttrace_lib.proofs.Texts.{pushed_more, pushed-end}

@@ -1,11 +1,7 @@
-use mathlib.Core.Path.{◌≡◌, refl, ap, ◌∙◌}
+use mathlib.Core.Path.{◌≡◌}
 use Prim.Native.Nat.{◌-◌, ◌≤◌}
-use native.Mathlib.Omega.{arith}
 use lib.ListN.{length, drop}
-use Rattle.frames.specs.Frames.{pushed_all, first_in}
-use Rattle.frames.proofs.Lines.{first_said}
-use Rattle.cuttrace_lib.proofs.Texts.{pushed_more, pushed-end}
-use Rattle.frames.specs.declared.Line.{Line}
+use Rattle.frames.specs.Frames.{pushed_all}
 use Rattle.cuttrace_lib.proofs.setup.first_kind.Given as goal
 
 abbrev pub invariant-loop-i : goal.invariant-loop-i
