@@ -1,6 +1,6 @@
 -- What a replay answers: the machine's run of the list without its cuts. Document 01, "Cut runs", demand 3, and
 -- document 02, ticket 5: each cut carries layout 2.
-use Rattle.std.specs.Prelude.{cond, List, [], ◌∷◌, ◌++◌, ℕ, ◌+◌, ◌/◌, ◌%◌, eqb, length, take, drop, replicate}
+use Rattle.std.specs.Prelude.{cond, List, [], ◌∷◌, ◌++◌, ℕ, ◌/◌, ◌%◌, eqb, length, take, drop, replicate}
 use Rattle.lists.specs.Lists.{into, bit}
 use Rattle.lists.specs.Questions.{Question, asked}
 use Rattle.kind.specs.Kind.{tally_count, uses_eeprom, detect_save_type}

@@ -13,8 +13,7 @@ use Rattle.replay.proofs.Pieces.{piece-length}
 use Rattle.replay.proofs.Runs.{has_room}
 use Prim.Native.Nat.{◌-◌}
 use native.Mathlib.Omega.{arith}
-use lib.ListN.{length}
-use Rattle.replay.proofs.Runs.{Ran, ran-start, out-length, goes_on, ends}
+use Rattle.replay.proofs.Runs.{ran-start, out-length, goes_on, ends}
 use Rattle.replay.proofs.running.run.Goals as goal
 
 pub loop-i-init : goal.loop-i-init
