@@ -1,6 +1,7 @@
 // The calls on an image, or on a kind's and a part's number.
 ghost use Rattle.std.specs.Prelude.{◌≡◌};
-ghost use Rattle.out_params.specs.Places.{answered_at, kind_answer, title_at, fit_answer, memory_size_answer, size_answer};
+ghost use Rattle.out_params.specs.Places.{answered_at, kind_answer, title_at};
+ghost use Rattle.out_params.specs.Places.{fit_answer, memory_size_answer, size_answer};
 ghost use Rattle.out_params.specs.Places.{id_word_answer};
 ghost use Rattle.out_params.specs.Places.{told};
 ghost use Rattle.image.specs.Image.{read, header_checksum};
