@@ -15,7 +15,7 @@ use Rattle.memory.specs.declared.Store.TheVariants.{File}
 use Rattle.memory.specs.Memory.{stored, with_count}
 use Rattle.kind.specs.Kind.{memory_size, tally_count}
 use Rattle.file_sizes.specs.SaveFit.{save_fit, taken, kept_part}
-use Rattle.cart.specs.declared.Reply.{Reply}
+use Rattle.cart.specs.Replies.{Reply}
 use Rattle.chip_record.specs.ChipState.{chip_of}
 use Rattle.cart.specs.Record.{State, counted}
 use Rattle.cart.specs.Calls.{load_save, save_data, large_after, load, file_of, exported, question16, questions, accepted, import_save}

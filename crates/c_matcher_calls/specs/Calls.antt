@@ -2,7 +2,7 @@
 use Rattle.std.specs.Prelude.{List, [], ◌∷◌, ℕ}
 use Rattle.lists.specs.Lists.{bit}
 use Rattle.lists.specs.Questions.{◌else◌, asked}
-use Rattle.image.specs.declared.Answer.{Answer}
+use Rattle.image.specs.Image.{Answer}
 use Rattle.image.specs.Image.{image_length, image_question, header_question, answered}
 use Rattle.kind.specs.Kind.{kind_number}
 use Rattle.matcher.specs.Matcher.{start}

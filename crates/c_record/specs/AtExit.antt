@@ -1,7 +1,7 @@
 -- What a C call leaves: "A no returns the number, the record as given, all buffers unchanged", and 25 bytes that
 -- are no record are 2.
 use Rattle.std.specs.Prelude.{Bool, false, cond, List, [], ℕ}
-use Rattle.image.specs.declared.Answer.{Answer}
+use Rattle.image.specs.Image.{Answer}
 use Rattle.out_params.specs.Places.{placed, answered_at, told}
 use Rattle.cart.specs.declared.Cartridge.{Cartridge}
 use Rattle.lists.specs.Lists.{bit}

@@ -15,7 +15,7 @@ use Rattle.lists.proofs.Bools.{bit-back}
 use Rattle.lists.proofs.Parts.{mid-part}
 use Rattle.chip_record.specs.declared.ChipRecord.{ChipRecord}
 use Rattle.cart.specs.declared.Cartridge.{Cartridge}
-use Rattle.cart.specs.declared.Reply.{Reply}
+use Rattle.cart.specs.Replies.{Reply}
 use Rattle.chip_record.specs.ChipState.{chip_bytes, chip_of}
 use Rattle.chip_record.specs.States.{state_bytes, eighteen_of, flag_from, state_questions}
 use Rattle.cart.specs.Record.{from_bytes}

@@ -10,7 +10,7 @@ use borrow.Author.Tests.{eq-eqb, ne_eqb}
 use Rattle.lists.specs.Lists.{low_first, bit}
 use Rattle.lists.proofs.Bools.{either}
 use Rattle.counts.specs.Tallies.{blank, first_in_use, in_use_number}
-use Rattle.image.specs.declared.Answer.{Answer}
+use Rattle.image.specs.Image.{Answer}
 use Rattle.kind.specs.Kind.{tally_count, uses_eeprom, window_start}
 use Rattle.cart.specs.declared.Cartridge.{Cartridge}
 use Rattle.cart.specs.Calls.{take_save_dirty, questions, accepted, uses_eeprom_of, eeprom_window_start, is_blank, in_use}

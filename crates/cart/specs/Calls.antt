@@ -6,7 +6,7 @@ use Rattle.lists.specs.Questions.{Question, ◌else◌}
 use Rattle.counts.specs.Tallies.{retallied, blank, first_in_use, in_use_number}
 use Rattle.memory.specs.declared.Store.TheVariants.{File}
 use Rattle.memory.specs.Memory.{Held, changed}
-use Rattle.image.specs.declared.Answer.{Answer}
+use Rattle.image.specs.Image.{Answer}
 use Rattle.image.specs.Image.{answered}
 use Rattle.kind.specs.declared.SaveType.{SaveType}
 use Rattle.kind.specs.declared.SaveType.TheVariants.{None, Sram, Flash64, Flash128, Eeprom512, Eeprom8k}

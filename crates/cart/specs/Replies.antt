@@ -1,11 +1,13 @@
 -- How a call returns what the machine answers: a refusal's number or 0, one number or 0, how many places of the memory
 -- it changed, and the record; each buffer is left as the machine leaves it.
-use Rattle.std.specs.Prelude.{Bool, List, [], ◌∷◌, ℕ}
+use Rattle.std.specs.Prelude.{Bool, List, [], ◌∷◌, ℕ, Result, Ok, Err}
 use Rattle.flash.specs.declared.Flash.{Flash}
 use Rattle.eeprom.specs.declared.Eeprom.{Eeprom}
 use Rattle.chip_record.specs.declared.ChipRecord.{ChipRecord}
 use Rattle.cart.specs.declared.Cartridge.{Cartridge}
-use Rattle.cart.specs.declared.Reply.{Reply}
+use Rattle.refusal.specs.declared.Refusal.{Refusal}
+use Rattle.refusal.specs.Refusals.{refusal_number}
+use Rattle.cart.specs.declared.Accepted.{Accepted}
 use Rattle.lists.specs.Lists.{bit}
 use Rattle.cart.specs.Record.{State, Outcome}
 
@@ -22,6 +24,12 @@ chip_record flash eeprom = record { flash = flash; eeprom = eeprom }
 abbrev pub cart_with : Cartridge → Bool → ChipRecord → Cartridge
 cart_with c dirty chip = record { len = c.len; kind = c.kind; part = c.part; dirty = dirty; chip = chip }
 
+pub record Reply : Type 0 where
+  pub refusal : ℕ
+  pub value : ℕ
+  pub changed : ℕ
+  pub cart : Cartridge
+
 -- every reply is made here
 abbrev pub reply : ℕ → ℕ → ℕ → Cartridge → Reply
 reply refusal value changed cart = record { refusal = refusal; value = value; changed = changed; cart = cart }
@@ -35,6 +43,14 @@ stored changed cart = reply 0 0 changed cart
 
 abbrev pub refused : ℕ → Cartridge → Reply
 refused number cart = reply number 0 0 cart
+
+-- the reply that a result is, of a call that was passed the record
+abbrev pub accepted_reply : Accepted → Reply
+accepted_reply a = reply 0 a.value a.changed a.cart
+
+abbrev pub reply_from : Cartridge → Result Accepted Refusal → Reply
+reply_from cart (Ok a) = accepted_reply a
+reply_from cart (Err r) = refused (refusal_number r) cart
 
 -- the number that a call answers; 0 stands for none
 abbrev pub first : List ℕ → ℕ

@@ -3,7 +3,7 @@ use Rattle.std.specs.Prelude.{◌≡◌, Bool, true, false, List, [], ◌∷◌,
 use Rattle.std.proofs.Math.Pow.{are_bytes}
 use Rattle.lists.specs.Lists.{bit}
 use Rattle.counts.specs.Tallies.{Words, retallied, tallies_of, blank_memory, first_used, stretch_of, in_use_number}
-use Rattle.image.specs.declared.Answer.{Answer}
+use Rattle.image.specs.Image.{Answer}
 use Rattle.image.specs.Image.{answered}
 use Rattle.kind.specs.Kind.{tally_count}
 use Rattle.cart.specs.Record.{State, Outcome, outcome_of, outcome, from_bytes}

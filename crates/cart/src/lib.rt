@@ -6,7 +6,7 @@ mod questions;
 
 ghost use Rattle.std.specs.Prelude.{◌≡◌};
 ghost use Rattle.cart.specs.Record.{fresh_chip, is_large, fresh_cart};
-ghost use Rattle.cart.specs.Replies.{reply, done, stored, refused};
+ghost use Rattle.cart.specs.Replies.{accepted_reply, done, stored};
 ghost use Rattle.cart.specs.Replies.{chip_record, cart_with};
 
 use chip_record::ChipRecord;
@@ -14,7 +14,8 @@ use eeprom::{Eeprom, EepromPhase};
 use flash::Flash;
 use kind::SaveType;
 use part::Part;
-pub use questions::{door, record_allowed, store_door};
+pub use questions::{ask_record, door, record_allowed, store_door};
+use refusal::Refusal;
 
 #[derive(Clone, Copy)]
 pub struct Cartridge {
@@ -28,73 +29,61 @@ pub struct Cartridge {
     pub chip: ChipRecord,
 }
 
-// What a call returns: the number of a refusal or 0, the number that it answers or 0, how many bytes of the memory it
-// changed, and the record.
+// What an accepted call returns: the number that it answers or 0, how many bytes of the memory it changed, and the
+// record.
 #[derive(Clone, Copy)]
-pub struct Reply {
-    pub refusal: u8,
+pub struct Accepted {
     pub value: u32,
     pub changed: u32,
     pub cart: Cartridge,
 }
 
-// Every reply is made here.
-fn reply_with(refusal: u8, value: u32, changed: u32, cart: Cartridge) -> Reply
-    ensures { result ≡ reply refusal value changed cart }
+// A refused call leaves the record as given.
+pub type Reply = Result<Accepted, Refusal>;
+
+// Of a call that stores nothing.
+pub fn done(value: u32, cart: Cartridge) -> Accepted
+    ensures { accepted_reply result ≡ done value cart }
 {
-    Reply {
-        refusal: refusal,
-        value: value,
-        changed: changed,
-        cart: cart,
+    Accepted {
+        value,
+        changed: 0,
+        cart,
     }
 }
 
-// Of a call that stores nothing.
-pub fn done(value: u32, cart: Cartridge) -> Reply
-    ensures { result ≡ done value cart }
-{
-    reply_with(0, value, 0, cart)
-}
-
 // Of a call that stores.
-pub fn stored(changed: u32, cart: Cartridge) -> Reply
-    ensures { result ≡ stored changed cart }
+pub fn stored(changed: u32, cart: Cartridge) -> Accepted
+    ensures { accepted_reply result ≡ stored changed cart }
 {
-    reply_with(0, 0, changed, cart)
-}
-
-// The record as given.
-pub fn refuse(number: u8, cart: Cartridge) -> Reply
-    ensures { result ≡ refused number cart }
-{
-    reply_with(number, 0, 0, cart)
+    Accepted {
+        value: 0,
+        changed,
+        cart,
+    }
 }
 
 pub fn cart_with(cart: Cartridge, dirty: bool, chip: ChipRecord) -> Cartridge
     ensures { result ≡ cart_with cart dirty chip }
 {
-    let mut next = cart;
-    next.dirty = dirty;
-    next.chip = chip;
-    next
+    Cartridge {
+        dirty,
+        chip,
+        ..cart
+    }
 }
 
 // The record with another flag, and another flash chip or EEPROM.
 pub fn with_flash(cart: Cartridge, dirty: bool, flash: Flash) -> Cartridge
     ensures { result ≡ cart_with cart dirty (chip_record flash cart.chip.eeprom) }
 {
-    let mut chip = cart.chip;
-    chip.flash = flash;
-    cart_with(cart, dirty, chip)
+    cart_with(cart, dirty, ChipRecord { flash, ..cart.chip })
 }
 
 pub fn with_eeprom(cart: Cartridge, dirty: bool, eeprom: Eeprom) -> Cartridge
     ensures { result ≡ cart_with cart dirty (chip_record cart.chip.flash eeprom) }
 {
-    let mut chip = cart.chip;
-    chip.eeprom = eeprom;
-    cart_with(cart, dirty, chip)
+    cart_with(cart, dirty, ChipRecord { eeprom, ..cart.chip })
 }
 
 fn fresh_chip(large: bool) -> ChipRecord
@@ -108,7 +97,7 @@ fn fresh_chip(large: bool) -> ChipRecord
         },
         eeprom: Eeprom {
             width: 0,
-            large: large,
+            large,
             phase: EepromPhase::Opcode,
             count: 0,
             block: 0,
@@ -121,23 +110,16 @@ fn fresh_chip(large: bool) -> ChipRecord
 fn is_large(kind: SaveType) -> bool
     ensures { result ≡ is_large kind }
 {
-    match kind {
-        SaveType::Eeprom8k => true,
-        SaveType::None => false,
-        SaveType::Sram => false,
-        SaveType::Flash64 => false,
-        SaveType::Flash128 => false,
-        SaveType::Eeprom512 => false,
-    }
+    matches!(kind, SaveType::Eeprom8k)
 }
 
 pub fn fresh_cart(len: usize, kind: SaveType, part: Part) -> Cartridge
     ensures { result ≡ fresh_cart len kind part }
 {
     Cartridge {
-        len: len,
-        kind: kind,
-        part: part,
+        len,
+        kind,
+        part,
         dirty: false,
         chip: fresh_chip(is_large(kind)),
     }

@@ -10,7 +10,7 @@ use lib.Pow.{are_bytes}
 use borrow.Author.Tests.{ne_eqb}
 use Rattle.lists.specs.Questions.{Question, asked}
 use Rattle.lists.proofs.Bools.{split, cases}
-use Rattle.image.specs.declared.Answer.{Answer}
+use Rattle.image.specs.Image.{Answer}
 use Rattle.title.specs.Title.{title_questions, header_title}
 use Rattle.file_sizes.specs.SaveFit.{kept_part}
 use Rattle.out_params.specs.Places.{placed, answered_at, title_at}

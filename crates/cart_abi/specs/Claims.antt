@@ -1,7 +1,7 @@
 -- What is claimed of refused calls: "A no returns the number, the record as given, all buffers unchanged".
 use Rattle.std.specs.Prelude.{◌≡◌, ◌≢◌, true, List, [], ℕ, replicate}
 use Rattle.std.proofs.Math.Pow.{are_bytes}
-use Rattle.image.specs.declared.Answer.{Answer}
+use Rattle.image.specs.Image.{Answer}
 use Rattle.title.specs.Title.{header_title}
 use Rattle.out_params.specs.Places.{answered_at, title_at}
 use Rattle.cart.specs.declared.Cartridge.{Cartridge}

@@ -6,7 +6,7 @@ use Rattle.kind.specs.declared.SaveType.{SaveType}
 use Rattle.kind.specs.Kind.{memory_size, tally_count}
 use Rattle.part.specs.declared.Part.TheVariants.{Usual}
 use Rattle.cart.specs.declared.Cartridge.{Cartridge}
-use Rattle.cart.specs.declared.Reply.{Reply}
+use Rattle.cart.specs.Replies.{Reply}
 use Rattle.chip_record.specs.ChipState.{chip_record_size}
 use Rattle.chip_record.specs.States.{eighteen_of}
 use Rattle.cart.specs.Record.{State, Outcome, fresh_cart}

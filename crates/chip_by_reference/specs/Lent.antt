@@ -5,7 +5,7 @@ use Rattle.kind.specs.declared.SaveType.{SaveType}
 use Rattle.part.specs.declared.Part.{Part}
 use Rattle.chip_record.specs.declared.ChipRecord.{ChipRecord}
 use Rattle.cart.specs.declared.Cartridge.{Cartridge}
-use Rattle.cart.specs.declared.Reply.{Reply}
+use Rattle.cart.specs.Replies.{Reply}
 use Rattle.cart.specs.Calls.{eeprom_write, step}
 use Rattle.cart.specs.Replies.{tallied, reply, store_replied}
 use Rattle.chip_by_reference.specs.declared.LentReply.{LentReply}

@@ -3,12 +3,14 @@ ghost use Rattle.std.specs.Prelude.{◌≡◌, ◌&&◌, leb, length, drop};
 ghost use Rattle.lists.specs.Lists.{low_value};
 ghost use Rattle.lists.specs.Questions.{asked};
 ghost use Rattle.chip_record.specs.ChipState.{chip_record_size, phase_number, phase_of, chip_bytes, chip_of};
+ghost use Rattle.refusal.specs.Refusals.{number_of};
 ghost use Rattle.chip_record.specs.ChipState.{field_questions, chip_allowed};
 
 use crate::layout::ChipBytes;
 use crate::{ChipRecord, layout};
 use eeprom::{Eeprom, EepromPhase};
 use flash::Flash;
+use refusal::Refusal;
 
 pub fn phase_number(phase: EepromPhase) -> u8
     ensures { result ≡ phase_number phase }
@@ -110,29 +112,29 @@ pub fn chip_of(b: &[u8]) -> ChipRecord
     }
 }
 
-// Questions 7 to 12, about the fields: the first number that applies, or 0. A count that its phase allows is below 64:
+// Questions 7 to 12, about the fields, in this order. A count that its phase allows is below 64:
 // so the limit is asked first, and the bound of 64 only of a count that is refused.
-pub fn field_questions(b: &[u8]) -> u8
+pub fn field_questions(b: &[u8]) -> Result<(), Refusal>
     requires { length b.now ≡ chip_record_size }
-    ensures { result ≡ asked (field_questions b.now) }
+    ensures { number_of result ≡ asked (field_questions b.now) }
 {
     if 6 < b[layout::PHASE] {
-        return 7;
+        return Err(Refusal::Phase);
     }
     if !flash::state_allowed(b[layout::FLASH_STATE]) {
-        return 8;
+        return Err(Refusal::FlashState);
     }
     if !flags_allowed(b[layout::BANK], b[layout::ID_MODE], b[layout::LARGE]) {
-        return 9;
+        return Err(Refusal::Flags);
     }
     if !eeprom::width_allowed(b[layout::WIDTH]) {
-        return 10;
+        return Err(Refusal::Width);
     }
     if !places_allowed(
         lists::low16(b[layout::BLOCK], b[layout::BLOCK + 1]),
         b[layout::PLACE],
     ) {
-        return 11;
+        return Err(Refusal::Places);
     }
     if b[layout::COUNT]
         < eeprom::count_limit(
@@ -140,12 +142,12 @@ pub fn field_questions(b: &[u8]) -> u8
             eeprom::w(b[layout::WIDTH], b[layout::LARGE] == 1),
         )
     {
-        return 0;
+        return Ok(());
     }
     if 64 < b[layout::COUNT] {
-        return 11;
+        return Err(Refusal::Places);
     }
-    12
+    Err(Refusal::Count)
 }
 
 fn flags_allowed(bank: u8, id: u8, large: u8) -> bool

@@ -1,12 +1,14 @@
 // The state that `chip_state` writes, and that restore takes: layout 2, or the 18 bytes of old files.
 ghost use Rattle.std.specs.Prelude.{◌≡◌, ◌≤◌, length};
 ghost use Rattle.lists.specs.Questions.{asked};
+ghost use Rattle.refusal.specs.Refusals.{number_of};
 ghost use Rattle.chip_record.specs.ChipState.{chip_record_size, chip_of};
 ghost use Rattle.chip_record.specs.States.{state_bytes, eighteen_of, flag_from, state_questions};
 
 use crate::encoding::{chip_bytes, chip_of, field_questions};
 use crate::layout::StateBytes;
 use crate::{ChipRecord, layout};
+use refusal::Refusal;
 
 pub fn state_of(chip: ChipRecord, dirty: bool) -> StateBytes
     ensures { result ≡ state_bytes chip dirty }
@@ -36,27 +38,24 @@ pub fn state_of(chip: ChipRecord, dirty: bool) -> StateBytes
     ]
 }
 
-// Questions 6, 17, 7 to 12 and 18: the first number that applies to a file's bytes, or 0.
-pub fn state_questions(b: &[u8]) -> u8
-    ensures { result ≡ asked (state_questions b.now) }
+// Questions 6, 17, 7 to 12 and 18, of a file's bytes, in this order.
+pub fn state_questions(b: &[u8]) -> Result<(), Refusal>
+    ensures { number_of result ≡ asked (state_questions b.now) }
 {
     if b.len() == layout::CHIP_SIZE {
         return field_questions(b);
     }
     if b.len() != layout::STATE_SIZE {
-        return 6;
+        return Err(Refusal::StateLength);
     }
     if b[layout::LAYOUT] != layout::LAYOUT_2 {
-        return 17;
+        return Err(Refusal::Layout);
     }
-    let refusal = field_questions(&b[..layout::CHIP_SIZE]);
-    if refusal != 0 {
-        return refusal;
-    }
+    field_questions(&b[..layout::CHIP_SIZE])?;
     if 1 < b[layout::FLAG] {
-        return 18;
+        return Err(Refusal::ChangedFlag);
     }
-    0
+    Ok(())
 }
 
 // The flag after a restore: the state's, or, of 18 bytes, the record's own.

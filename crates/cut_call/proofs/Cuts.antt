@@ -12,7 +12,7 @@ use borrow.Author.Tests.{eq-eqb, ne_eqb, leb-true}
 use Rattle.lists.proofs.Parts.{front_of, length-into}
 use Rattle.kind.specs.Kind.{memory_size}
 use Rattle.cart.specs.declared.Cartridge.{Cartridge}
-use Rattle.cart.specs.declared.Reply.{Reply}
+use Rattle.cart.specs.Replies.{Reply}
 use Rattle.chip_record.specs.ChipState.{chip_bytes}
 use Rattle.chip_record.specs.States.{state_bytes}
 use Rattle.cart.specs.Record.{State, Outcome, record_allowed}

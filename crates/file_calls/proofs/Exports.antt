@@ -13,7 +13,7 @@ use Rattle.kind.specs.declared.SaveType.{SaveType}
 use Rattle.kind.specs.declared.SaveType.TheVariants.{None, Sram, Flash64, Flash128, Eeprom512, Eeprom8k}
 use Rattle.kind.proofs.Sizes.{memory-small}
 use Rattle.kind.specs.Kind.{memory_size}
-use Rattle.cart.specs.declared.Reply.{Reply}
+use Rattle.cart.specs.Replies.{Reply}
 use Rattle.cart.specs.Record.{State}
 use Rattle.cart.specs.Calls.{file_of, holds, exported}
 use Rattle.cart.specs.Replies.{done, export_replied}

@@ -1,9 +1,10 @@
 -- What is asked of the image alone. Document 01, "Questions at the door" and "Beside the machine".
-use Rattle.std.specs.Prelude.{ℕ, ◌+◌, ◌-◌, ◌%◌, Bool, cond, ◌&&◌, List, [], ◌∷◌, length, take, drop, ◌==◌, nat_le}
+use Rattle.std.specs.Prelude.{ℕ, ◌+◌, ◌-◌, ◌%◌, Bool, cond, ◌&&◌, List, [], ◌∷◌, length, take, drop, ◌==◌, nat_le, Result, Ok, Err}
 use Rattle.std.proofs.Math.Seq.{slice}
 use Rattle.lists.specs.Lists.{low_value, fold}
 use Rattle.lists.specs.Questions.{Question, ◌else◌, asked}
-use Rattle.image.specs.declared.Answer.{Answer}
+use Rattle.refusal.specs.declared.Refusal.{Refusal}
+use Rattle.refusal.specs.Refusals.{refusal_number}
 
 -- 1: "Is the image 192 to 33,554,432 bytes?"
 unfoldable pub image_length : ℕ → Bool
@@ -16,12 +17,22 @@ image_question image = image_length (length image) else 1
 abbrev pub header_question : List ℕ → Question
 header_question image = nat_le 192 (length image) else 1
 
+-- the number of a refusal or 0, and the value asked for
+pub record Answer : Type 0 where
+  pub refusal : ℕ
+  pub value : ℕ
+
 -- "A no returns the number"; with it goes the value 0
 abbrev pub accepted : ℕ → Answer
 accepted v = record { refusal = 0; value = v }
 
 abbrev pub refused : ℕ → Answer
 refused n = record { refusal = n; value = 0 }
+
+-- the answer that a result is
+abbrev pub answer_of : Result ℕ Refusal → Answer
+answer_of (Ok v) = accepted v
+answer_of (Err r) = refused (refusal_number r)
 
 abbrev pub answered : List Question → ℕ → Answer
 answered qs v = cond (asked qs == 0) (accepted v) (refused (asked qs))

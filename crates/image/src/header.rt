@@ -1,14 +1,14 @@
 // The header's complement check.
 ghost use Rattle.std.specs.Prelude.{◌≡◌, ◌≤◌, length};
-ghost use Rattle.image.specs.Image.{less, header_sum, header_checksum};
+ghost use Rattle.image.specs.Image.{less, header_sum, header_checksum, answer_of};
 
-use crate::{Answer, accept, refuse};
+use refusal::Refusal;
 
 // x minus b, modulo 256.
 fn minus(x: u8, b: u8) -> u8
     ensures { result ≡ less x b }
 {
-    std::num::wrapping_sub_u8(x, b)
+    x.wrapping_sub(b)
 }
 
 fn header_sum(image: &[u8]) -> u8
@@ -24,11 +24,12 @@ fn header_sum(image: &[u8]) -> u8
     minus(sum, 0x19)
 }
 
-pub fn header_checksum(image: &[u8]) -> Answer
-    ensures { result ≡ header_checksum image.now }
+#[tactic(auto, using(lists::proofs::Bools::tests), unfolding(crate::specs::Image::header_checksum))]
+pub fn header_checksum(image: &[u8]) -> Result<u32, Refusal>
+    ensures { answer_of result ≡ header_checksum image.now }
 {
     if image.len() < 192 {
-        return refuse(1);
+        return Err(Refusal::ImageLength);
     }
-    accept(header_sum(image) as u32)
+    Ok(u32::from(header_sum(image)))
 }

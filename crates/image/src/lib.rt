@@ -6,43 +6,29 @@
 mod header;
 mod reads;
 
-ghost use Rattle.std.specs.Prelude.{◌≡◌};
-ghost use Rattle.image.specs.Image.{image_length, accepted, refused};
+ghost use Rattle.std.specs.Prelude.{◌≡◌, [], ◌∷◌};
+ghost use Rattle.lists.specs.Questions.{◌else◌, asked};
+ghost use Rattle.refusal.specs.Refusals.{number_of};
+ghost use Rattle.image.specs.Image.{image_length};
 
 pub use header::header_checksum;
 pub use reads::{read, read16, read32};
-
-// The number of a refusal, or 0 and the value asked for.
-#[derive(Clone, Copy)]
-pub struct Answer {
-    pub refusal: u8,
-    pub value: u32,
-}
+use refusal::Refusal;
 
 // Question 1, of a length.
+#[tactic(auto, using(lists::proofs::Bools::tests), unfolding(crate::specs::Image::image_length))]
 pub fn image_length(n: usize) -> bool
     ensures { result ≡ image_length n }
 {
-    if n < 192 {
-        return false;
-    }
-    n <= 33554432
+    192 <= n && n <= 33554432
 }
 
-pub fn accept(value: u32) -> Answer
-    ensures { result ≡ accepted value }
+pub fn ask_length(n: usize) -> Result<(), Refusal>
+    ensures { number_of result ≡ asked (image_length n else 1 ∷ []) }
 {
-    Answer {
-        refusal: 0,
-        value: value,
-    }
-}
-
-pub fn refuse(number: u8) -> Answer
-    ensures { result ≡ refused number }
-{
-    Answer {
-        refusal: number,
-        value: 0,
+    if image_length(n) {
+        Ok(())
+    } else {
+        Err(Refusal::ImageLength)
     }
 }

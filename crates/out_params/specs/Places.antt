@@ -1,7 +1,7 @@
 -- What a call leaves in an out-parameter; and the answers by number of the calls on an image.
 use Rattle.std.specs.Prelude.{cond, List, [], ◌∷◌, ℕ, leb, eqb}
 use Rattle.lists.specs.Questions.{◌else◌}
-use Rattle.image.specs.declared.Answer.{Answer}
+use Rattle.image.specs.Image.{Answer}
 use Rattle.image.specs.Image.{image_question, accepted, answered}
 use Rattle.kind.specs.Kind.{kind_number, kind_of, memory_size, detect_save_type}
 use Rattle.part.specs.Part.{part_of, id_word, number_fits}

@@ -10,7 +10,7 @@ use Rattle.lists.specs.Lists.{bit}
 use Rattle.lists.specs.Questions.{asked}
 use Rattle.lists.proofs.Bools.{either}
 use Rattle.cart.specs.declared.Cartridge.{Cartridge}
-use Rattle.cart.specs.declared.Reply.{Reply}
+use Rattle.cart.specs.Replies.{Reply}
 use Rattle.cart.specs.Record.{State, Outcome}
 use Rattle.cart.specs.Calls.{save_data, file_of, questions, accepted, step}
 use Rattle.cart.specs.Replies.{tallied, replied, flag_replied}

@@ -11,7 +11,7 @@ use Rattle.lists.specs.Questions.{asked}
 use Rattle.lists.proofs.Questions.{AllYes, all_yes, yes-all}
 use Rattle.kind.specs.Kind.{memory_size, tally_count, uses_eeprom, detect_save_type}
 use Rattle.part.specs.Part.{part_of}
-use Rattle.cart.specs.declared.Reply.{Reply}
+use Rattle.cart.specs.Replies.{Reply}
 use Rattle.cart.specs.Record.{State, Outcome, open_questions, from_bytes, fresh}
 use Rattle.cart.specs.Replies.{tallied, store_replied}
 use Rattle.cart.proofs.Sound.{opened}

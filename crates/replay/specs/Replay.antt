@@ -5,7 +5,7 @@ use Rattle.lists.specs.Lists.{into, bit}
 use Rattle.lists.specs.Questions.{Question, asked}
 use Rattle.kind.specs.Kind.{tally_count, uses_eeprom, detect_save_type}
 use Rattle.cart.specs.declared.Cartridge.{Cartridge}
-use Rattle.cart.specs.declared.Reply.{Reply}
+use Rattle.cart.specs.Replies.{Reply}
 use Rattle.cart.specs.Record.{State, Outcome, open_questions, from_bytes}
 use Rattle.cart.specs.Calls.{save_read, save_write, eeprom_begin_dma, eeprom_write, eeprom_read}
 use Rattle.cart.specs.Calls.{load_save, save_data, chip_state, take_save_dirty, step}

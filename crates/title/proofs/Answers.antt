@@ -7,7 +7,7 @@ use lib.Seq.{length-take-le}
 use borrow.Author.Tests.{le-leb, lt-leb}
 use Rattle.lists.specs.Lists.{into}
 use Rattle.lists.proofs.Parts.{slice-part}
-use Rattle.image.specs.declared.Answer.{Answer}
+use Rattle.image.specs.Image.{Answer}
 use Rattle.image.specs.Image.{accepted, refused}
 use Rattle.title.specs.Title.{replaced, trimmed, title_bytes, header_title}
 

@@ -4,7 +4,7 @@ use Rattle.std.proofs.Math.Option.{Option, none, some}
 use Rattle.std.proofs.Math.Seq.{slice}
 use Rattle.lists.specs.Lists.{into}
 use Rattle.lists.specs.Questions.{Question, ◌else◌, asked}
-use Rattle.image.specs.declared.Answer.{Answer}
+use Rattle.image.specs.Image.{Answer}
 use Rattle.title.specs.declared.Sequence.{Sequence}
 use Rattle.title.specs.declared.Shown.{Shown}
 use Rattle.title.specs.declared.Sequence.TheVariants.{Well, Ill}

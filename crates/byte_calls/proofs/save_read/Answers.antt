@@ -1,5 +1,5 @@
 -- `byte_calls::save_read` meets its contract. Assumes nothing.
-use Rattle.cart.specs.declared.Reply.{Reply}
+use Rattle.cart.specs.Replies.{Reply}
 use Rattle.cart.specs.Replies.{replied}
 use Rattle.cart.proofs.Replies.{step-no, step_kept, door-yes}
 use mathlib.Core.Path.{refl, sym, ap, ◌∙◌}

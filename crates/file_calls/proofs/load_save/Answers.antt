@@ -2,7 +2,7 @@
 use mathlib.Core.Path.{sym, ap, ◌∙◌}
 use mathlib.Core.List.{[]}
 use lib.ListN.{length}
-use Rattle.cart.specs.declared.Reply.{Reply}
+use Rattle.cart.specs.Replies.{Reply}
 use Rattle.cart.specs.Calls.{load_save, questions}
 use Rattle.cart.specs.Replies.{tallied, store_replied}
 use Rattle.cart.proofs.Replies.{step-no, step-yes, store-door-yes}

@@ -5,7 +5,7 @@ use Prim.Native.Nat.{ℕ}
 use native.Mathlib.Omega.{arith}
 use lib.ListN.{length, take}
 use Rattle.cart.specs.Counts.{store_of}
-use Rattle.cart.specs.declared.Reply.{Reply}
+use Rattle.cart.specs.Replies.{Reply}
 use Rattle.lists.specs.Questions.{◌else◌}
 use lib.Seq.{length-take-le}
 use borrow.Author.Tests.{le-leb, lt-leb}

@@ -5,7 +5,7 @@ use native.Mathlib.Omega.{arith}
 use Rattle.lists.proofs.Bools.{denied, granted}
 use Rattle.eeprom.specs.declared.Eeprom.{Eeprom}
 use Rattle.eeprom.specs.Eeprom.{dma_question}
-use Rattle.cart.specs.declared.Reply.{Reply}
+use Rattle.cart.specs.Replies.{Reply}
 use Rattle.cart.specs.Calls.{eeprom_begin_dma, questions, accepted}
 use Rattle.cart.specs.Counts.{store_of}
 use Rattle.cart.specs.Replies.{state, chip_record, cart_with, done, replied}

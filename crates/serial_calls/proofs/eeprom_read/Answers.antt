@@ -2,7 +2,7 @@
 use mathlib.Core.Path.{refl, sym, ap, ap₂, ◌∙◌}
 use mathlib.Core.List.{[]}
 use lib.ListN.{length}
-use Rattle.cart.specs.declared.Reply.{Reply}
+use Rattle.cart.specs.Replies.{Reply}
 use native.Mathlib.Omega.{arith}
 use Rattle.eeprom.specs.declared.Eeprom.{Eeprom}
 use Rattle.cart.specs.Calls.{eeprom_read, questions, accepted}

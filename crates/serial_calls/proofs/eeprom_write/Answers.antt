@@ -6,7 +6,7 @@ use Rattle.kind.specs.Kind.{uses_eeprom}
 use Rattle.cart.proofs.Replies.{step-no, step-yes, store-door-no, store-door-yes, store-door-more}
 use native.Mathlib.Omega.{arith}
 use lib.ListN.{length}
-use Rattle.cart.specs.declared.Reply.{Reply}
+use Rattle.cart.specs.Replies.{Reply}
 use Rattle.lists.proofs.Bools.{denied, granted}
 use Rattle.cart.specs.Calls.{eeprom_write, questions}
 use Rattle.cart.specs.Replies.{tallied, store_replied}

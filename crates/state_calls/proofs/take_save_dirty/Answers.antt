@@ -3,7 +3,7 @@ use mathlib.Core.Path.{refl, sym, ap, ap₂, ◌∙◌}
 use mathlib.Core.List.{[]}
 use native.Mathlib.Omega.{arith}
 use Rattle.lists.proofs.Bools.{denied, granted}
-use Rattle.cart.specs.declared.Reply.{Reply}
+use Rattle.cart.specs.Replies.{Reply}
 use Rattle.cart.specs.Calls.{take_save_dirty, questions, accepted}
 use Rattle.cart.specs.Counts.{store_of}
 use Rattle.cart.specs.Replies.{state, done, flag_replied}

@@ -1,5 +1,8 @@
 -- `chip_record::states::state_questions` meets its contract. Assumes nothing.
-use mathlib.Core.Path.{sym, ◌∙◌}
+use mathlib.Core.Path.{sym, ap, ◌∙◌}
+use Rattle.std.proofs.Common.{◌≡◌}
+use Rattle.refusal.proofs.Passed.{passed, not-0}
+use Rattle.refusal.specs.Refusals.{number_of}
 use native.Mathlib.Omega.{arith}
 use lib.Seq.{length-take-le}
 use borrow.Author.Tests.{ne_eqb, le-leb, lt-leb}
@@ -18,20 +21,21 @@ returns-then-b-ne-LAYOUT_2 c = rw (c.if-b-ne-STATE_SIZE.false, ne_eqb _ _ c.if-b
 pub slice_bounds-field_questions-end : goal.slice_bounds-field_questions-end
 slice_bounds-field_questions-end c = sym (length-take-le 18 c.args.b.now (omega (arith, c.if-b-ne-STATE_SIZE.false)))
 
-pub field_questions-refusal-requires : goal.field_questions-refusal-requires
-field_questions-refusal-requires c = length-take-le 18 c.args.b.now (omega (arith, c.if-b-ne-STATE_SIZE.false))
+pub field_questions-requires-2 : goal.field_questions-requires-2
+field_questions-requires-2 c = length-take-le 18 c.args.b.now (omega (arith, c.if-b-ne-STATE_SIZE.false))
 
-pub returns-then-refusal-ne0 : goal.returns-then-refusal-ne0
-returns-then-refusal-ne0 c =
-    new-asked c.args.b.now c.if-b-ne-STATE_SIZE.false c.if-b-ne-LAYOUT_2.false _
-    c.field_questions-refusal.ensures (λ z. absurd (c.if-refusal-ne0.true z))
+pub returns-in_err-field_questions : goal.returns-in_err-field_questions
+returns-in_err-field_questions c =
+    let e = passed c.from_residual.result c.in_err-field_questions.field-0.0 c.from_residual.ensures.1 in
+    new-asked c.args.b.now c.if-b-ne-STATE_SIZE.false c.if-b-ne-LAYOUT_2.false _ (e ∙ c.in_err-field_questions.ensures)
+    (λ z. absurd (not-0 c.in_err-field_questions.field-0.0 (sym e ∙ z)))
 
 pub returns-then-b-gt1 : goal.returns-then-b-gt1
 returns-then-b-gt1 c =
     new-18 c.args.b.now c.if-b-ne-STATE_SIZE.false c.if-b-ne-LAYOUT_2.false
-    (sym c.field_questions-refusal.ensures ∙ c.if-refusal-ne0.false) (lt-leb _ _ c.if-b-gt1.true)
+    (sym c.field_questions-2.ensures ∙ ap number_of c.in_ok-field_questions.was) (lt-leb _ _ c.if-b-gt1.true)
 
 pub returns : goal.returns
 returns c =
     new-asked c.args.b.now c.if-b-ne-STATE_SIZE.false c.if-b-ne-LAYOUT_2.false 0
-    (sym c.if-refusal-ne0.false ∙ c.field_questions-refusal.ensures) (λ z. le-leb _ _ c.if-b-gt1.false)
+    (sym (ap number_of c.in_ok-field_questions.was) ∙ c.field_questions-2.ensures) (λ z. le-leb _ _ c.if-b-gt1.false)

@@ -4,4 +4,4 @@ use Rattle.image.proofs.header.minus.Goals as goal
 
 pub returns : goal.returns
 unfolding less
-returns c = omega (arith, c.wrapping_sub_u8.ensures)
+returns c = omega arith

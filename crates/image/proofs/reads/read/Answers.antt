@@ -1,19 +1,15 @@
--- `image::reads::read` meets its contract. Assumes nothing.
-use Rattle.std.proofs.Common.{◌∙◌}
-use Rattle.image.specs.Image.{read_at, read}
-use Rattle.image.proofs.Answers.{image-no, image-yes, read-1}
+use Rattle.std.proofs.Common.{rules, ◌∙◌}
+use Rattle.image.specs.Image.{read, read_at}
+use Rattle.image.proofs.Answers.{image-yes, read-1}
 use Rattle.image.proofs.reads.read.Goals as goal
 
-pub returns-then-not-image_length : goal.returns-then-not-image_length
+pub returns-in_err-ask_length : goal.returns-in_err-ask_length
 unfolding read
-returns-then-not-image_length c =
-    let b = c in
-    let a = b.args in
-    image-no a.image.now (read_at 1 a.image.now a.address) b.image_length.result b.image_length.ensures c.if-not-image_length.true c.refuse.ensures
+returns-in_err-ask_length c = search rules
 
 pub returns : goal.returns
 unfolding read
 returns c =
-    let b = c in
-    let a = b.args in
-    image-yes a.image.now (read_at 1 a.image.now a.address) b.image_length.result b.image_length.ensures c.byte_at.result b.if-not-image_length.false c.accept.ensures (c.byte_at.ensures ∙ read-1 a.image.now a.address)
+    let a = c.args in
+    image-yes a.image.now (read_at 1 a.image.now a.address) _
+    c.ask_length.ensures c.in_ok-ask_length.was (c.byte_at.ensures ∙ read-1 a.image.now a.address)

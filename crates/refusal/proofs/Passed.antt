@@ -1,0 +1,39 @@
+-- What a `?` passes on. Assumes nothing.
+use Rattle.std.proofs.Common.{◌≡◌, ◌≢◌, ◌<◌, Result, Ok, Err, ap, arith}
+use Rattle.std.specs.Result.{IsErrAnd}
+use Rattle.refusal.specs.declared.Refusal.{Refusal}
+use Rattle.refusal.specs.declared.Refusal.TheVariants.{ImageLength, Record, MemoryLength, NoEeprom, AddressUnderWay, StateLength, Phase}
+use Rattle.refusal.specs.declared.Refusal.TheVariants.{FlashState, Flags, Width, Places, Count, Destination, FileLength, Part, Tallies}
+use Rattle.refusal.specs.declared.Refusal.TheVariants.{Layout, ChangedFlag, UpperHalf, ByteWrite, NoList}
+use Rattle.refusal.specs.Refusals.{refusal_number, number_of}
+
+pub passed : {A : Type 0} (t : Result A Refusal) (e : Refusal) → IsErrAnd t (λ f. f ≡ e) → number_of t ≡ refusal_number e
+passed (Ok x) e h = absurd h
+passed (Err f) e h = ap refusal_number h
+
+-- no refusal has the number that stands for none
+positive : (e : Refusal) → 0 < refusal_number e
+positive ImageLength = omega arith
+positive Record = omega arith
+positive MemoryLength = omega arith
+positive NoEeprom = omega arith
+positive AddressUnderWay = omega arith
+positive StateLength = omega arith
+positive Phase = omega arith
+positive FlashState = omega arith
+positive Flags = omega arith
+positive Width = omega arith
+positive Places = omega arith
+positive Count = omega arith
+positive Destination = omega arith
+positive FileLength = omega arith
+positive Part = omega arith
+positive Tallies = omega arith
+positive Layout = omega arith
+positive ChangedFlag = omega arith
+positive UpperHalf = omega arith
+positive ByteWrite = omega arith
+positive NoList = omega arith
+
+pub not-0 : (e : Refusal) → refusal_number e ≢ 0
+not-0 e z = omega (arith, positive e)
