@@ -6,9 +6,9 @@ ghost use Rattle.std.specs.Prelude.{◌≡◌, [], length};
 ghost use Rattle.kind.specs.Kind.{memory_size, tally_count};
 ghost use Rattle.cart.specs.Record.{counted};
 ghost use Rattle.cart.specs.Calls.{save_read, save_write, read_save, accepted, step};
-ghost use Rattle.cart.specs.Replies.{state, tallied, replied, store_replied};
+ghost use Rattle.cart.specs.Replies.{state, tallied, accepted_reply, reply_from, replied, store_replied};
 
-use cart::{Cartridge, Reply};
+use cart::{Accepted, Cartridge, Reply};
 use memory::NO_FILE;
 
 fn read_save(cart: Cartridge, memory: &[u8], address: u32) -> u8
@@ -23,14 +23,11 @@ fn read_save(cart: Cartridge, memory: &[u8], address: u32) -> u8
 }
 
 pub fn save_read(cart: Cartridge, memory: &[u8], address: u32) -> Reply
-    ensures { (result, memory.now)
+    ensures { (reply_from cart result, memory.now)
         ≡ replied (step (save_read address) [] (state cart memory.now)) }
 {
-    let refusal = cart::door(cart, memory.len());
-    if refusal != 0 {
-        return cart::refuse(refusal, cart);
-    }
-    cart::done(read_save(cart, memory, address) as u32, cart)
+    cart::door(cart, memory.len())?;
+    Ok(cart::done(u32::from(read_save(cart, memory, address)), cart))
 }
 
 // An accepted `save_write`.
@@ -40,11 +37,11 @@ fn write_save(
     tallies: &mut [u16],
     address: u32,
     value: u8,
-) -> Reply
+) -> Accepted
     requires memory_len { length memory.old ≡ memory_size cart.kind }
     requires tallies_len { length tallies.old ≡ tally_count cart.kind }
     ensures { let s = tallied cart memory.old tallies.old in
-        (result, memory.new, tallies.new)
+        (accepted_reply result, memory.new, tallies.new)
         ≡ store_replied (counted s (accepted (save_write address value) [] s)) }
 {
     let kind = cart.kind;
@@ -68,12 +65,9 @@ pub fn save_write(
     value: u8,
 ) -> Reply
     ensures { let s = tallied cart memory.old tallies.old in
-        (result, memory.new, tallies.new)
+        (reply_from cart result, memory.new, tallies.new)
         ≡ store_replied (step (save_write address value) [] s) }
 {
-    let refusal = cart::store_door(cart, memory.len(), tallies.len());
-    if refusal != 0 {
-        return cart::refuse(refusal, cart);
-    }
-    write_save(cart, memory, tallies, address, value)
+    cart::store_door(cart, memory.len(), tallies.len())?;
+    Ok(write_save(cart, memory, tallies, address, value))
 }

@@ -1,5 +1,11 @@
 -- A call's outcome, its questions answered. Assumes nothing.
-use mathlib.Core.Path.{◌≡◌, refl, sym, ◌∙◌}
+use mathlib.Core.Path.{◌≡◌, refl, sym, ap, ◌∙◌}
+use Rattle.std.proofs.Common.{Result, Ok, Err}
+use Rattle.std.specs.Result.{IsErrAnd}
+use Rattle.refusal.specs.declared.Refusal.{Refusal}
+use Rattle.refusal.specs.Refusals.{refusal_number}
+use Rattle.cart.specs.declared.Accepted.{Accepted}
+use Rattle.cart.specs.Replies.{reply_from, refused as refused_reply}
 use mathlib.Core.Logic.{◌≢◌}
 use mathlib.Core.Bool.{true}
 use mathlib.Core.List.{List, [], ◌∷◌, ◌++◌}
@@ -15,6 +21,11 @@ use Rattle.cart.specs.Calls.{Call, questions, accepted, step}
 use Rattle.cart.specs.Record.{State, Outcome, guarded, refused, counted, record_allowed, record_question, door_number, store_door_number}
 use Rattle.cart.specs.Counts.{store_of}
 use Rattle.cart.proofs.Counts.{accepted-kept}
+
+-- what a `?` passes on
+pub passed-reply : (c : Cartridge) (t : Result Accepted Refusal) (e : Refusal) → IsErrAnd t (λ f. f ≡ e) → reply_from c t ≡ refused_reply (refusal_number e) c
+passed-reply c (Ok x) e h = absurd h
+passed-reply c (Err f) e h = ap (λ (r : Refusal). refused_reply (refusal_number r) c) h
 
 module _ (qs : List Question) (d : List ℕ) (s : State) (o : Outcome) where
   -- the number is n
@@ -38,6 +49,14 @@ module _ (q : Call) (d : List ℕ) (s : State) (n : ℕ) (e : n ≡ asked (quest
   -- a call that is no store has changed no place
   pub step_kept : store_of q s ≡ Nothing → n ≡ 0 → step q d s ≡ accepted q d s
   step_kept k h = step-yes h ∙ accepted-kept q d s k
+
+-- question 2, with more behind it
+module _ (c : Cartridge) where
+  pub record-no : (more : List Question) (k : ℕ) → k ≡ asked (record_question c ∷ []) → k ≢ 0 → k ≡ asked (record_question c ∷ more)
+  record-no more k e h = asked-no (record_question c ∷ []) more k e h
+
+  pub record-yes : 0 ≡ asked (record_question c ∷ []) → record_allowed c ≡ true
+  record-yes e = (yes-all (record_question c ∷ []) refl (sym e)).0
 
 -- questions 2 and 3, with more behind them: answered no with the number k, or yes
 module _ (c : Cartridge) (n : ℕ) where

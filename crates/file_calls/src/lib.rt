@@ -6,32 +6,28 @@ ghost use Rattle.std.specs.Prelude.{◌≡◌, [], length};
 ghost use Rattle.kind.specs.Kind.{memory_size, tally_count};
 ghost use Rattle.cart.specs.Record.{counted};
 ghost use Rattle.cart.specs.Calls.{large_after, load_save, save_data, accepted, step};
-ghost use Rattle.cart.specs.Replies.{state, tallied, export_replied, store_replied};
+ghost use Rattle.cart.specs.Replies.{state, tallied, accepted_reply, reply_from, export_replied, store_replied};
 ghost use Rattle.file_calls.specs.Files.{eeprom_length, file_length};
 
-use cart::{Cartridge, Reply};
+use cart::{Accepted, Cartridge, Reply};
 use kind::SaveType;
 use memory::Store;
+use refusal::Refusal;
 
 // Whether an EEPROM is large after a file of n bytes was loaded.
+#[tactic(auto, using(lists::proofs::Bools::tests))]
 pub fn large_after(kind: SaveType, large: bool, n: usize) -> bool
     ensures { result ≡ large_after kind large n }
 {
-    if large {
-        return true;
-    }
-    if !kind::uses_eeprom(kind) {
-        return false;
-    }
-    512 < n
+    large || kind::uses_eeprom(kind) && 512 < n
 }
 
 // An accepted `load_save`.
-fn load(cart: Cartridge, memory: &mut [u8], tallies: &mut [u16], file: &[u8]) -> Reply
+fn load(cart: Cartridge, memory: &mut [u8], tallies: &mut [u16], file: &[u8]) -> Accepted
     requires memory_len { length memory.old ≡ memory_size cart.kind }
     requires tallies_len { length tallies.old ≡ tally_count cart.kind }
     ensures { let s = tallied cart memory.old tallies.old in
-        (result, memory.new, tallies.new)
+        (accepted_reply result, memory.new, tallies.new)
         ≡ store_replied (counted s (accepted (load_save file.now) [] s)) }
 {
     let kind = cart.kind;
@@ -50,14 +46,11 @@ fn load(cart: Cartridge, memory: &mut [u8], tallies: &mut [u16], file: &[u8]) ->
 
 pub fn load_save(cart: Cartridge, memory: &mut [u8], tallies: &mut [u16], file: &[u8]) -> Reply
     ensures { let s = tallied cart memory.old tallies.old in
-        (result, memory.new, tallies.new)
+        (reply_from cart result, memory.new, tallies.new)
         ≡ store_replied (step (load_save file.now) [] s) }
 {
-    let refusal = cart::store_door(cart, memory.len(), tallies.len());
-    if refusal != 0 {
-        return cart::refuse(refusal, cart);
-    }
-    load(cart, memory, tallies, file)
+    cart::store_door(cart, memory.len(), tallies.len())?;
+    Ok(load(cart, memory, tallies, file))
 }
 
 fn eeprom_length(large: bool) -> usize
@@ -78,20 +71,17 @@ pub fn file_length(kind: SaveType, large: bool) -> usize
 
 // Writes the file to the front of the destination and answers its length.
 pub fn save_data(cart: Cartridge, memory: &[u8], destination: &mut [u8]) -> Reply
-    ensures { (result, destination.new)
+    ensures { (reply_from cart result, destination.new)
         ≡ export_replied (step save_data destination.old (state cart memory.now)) }
 {
-    let refusal = cart::door(cart, memory.len());
-    if refusal != 0 {
-        return cart::refuse(refusal, cart);
-    }
+    cart::door(cart, memory.len())?;
     let kind = cart.kind;
     let chip = cart.chip;
     let e = chip.eeprom;
     let n = file_length(kind, e.large);
     if destination.len() < n {
-        return cart::refuse(13, cart);
+        return Err(Refusal::Destination);
     }
     memory::copy_file(destination, &memory[..n]);
-    cart::done(n as u32, cart)
+    Ok(cart::done(n as u32, cart))
 }

@@ -6,37 +6,36 @@ ghost use Rattle.std.specs.Prelude.{◌≡◌, true, List, [], ℕ, length};
 ghost use Rattle.kind.specs.Kind.{memory_size, tally_count, uses_eeprom};
 ghost use Rattle.cart.specs.Record.{record_allowed, counted};
 ghost use Rattle.cart.specs.Calls.{eeprom_begin_dma, eeprom_write, eeprom_read, accepted, step};
-ghost use Rattle.cart.specs.Replies.{state, tallied, replied, store_replied};
+ghost use Rattle.cart.specs.Replies.{state, tallied, accepted_reply, reply_from, replied, store_replied};
 
-use cart::{Cartridge, Reply};
+use cart::{Accepted, Cartridge, Reply};
 use memory::NO_FILE;
+use refusal::Refusal;
 
 // Takes no memory; the contract holds for any memory.
 pub fn eeprom_begin_dma(cart: Cartridge, words: usize) -> Reply
-    ensures { (m : List ℕ) → (result, m) ≡ replied (step (eeprom_begin_dma words) [] (state cart m)) }
+    ensures { (m : List ℕ) → (reply_from cart result, m) ≡ replied (step (eeprom_begin_dma words) [] (state cart m)) }
 {
-    if !cart::record_allowed(cart) {
-        return cart::refuse(2, cart);
-    }
+    cart::ask_record(cart)?;
     let chip = cart.chip;
     let e = chip.eeprom;
     if !eeprom::dma_allowed(words, e) {
-        return cart::refuse(5, cart);
+        return Err(Refusal::AddressUnderWay);
     }
-    cart::done(
+    Ok(cart::done(
         0,
         cart::with_eeprom(cart, cart.dirty, eeprom::begin_dma(words, e)),
-    )
+    ))
 }
 
 // An accepted `eeprom_write`.
-fn bit_in(cart: Cartridge, memory: &mut [u8], tallies: &mut [u16], value: u16) -> Reply
+fn bit_in(cart: Cartridge, memory: &mut [u8], tallies: &mut [u16], value: u16) -> Accepted
     requires { (record_allowed cart ≡ true)
         × (uses_eeprom cart.kind ≡ true)
         × (length memory.old ≡ memory_size cart.kind)
         × (length tallies.old ≡ tally_count cart.kind) }
     ensures { let s = tallied cart memory.old tallies.old in
-        (result, memory.new, tallies.new)
+        (accepted_reply result, memory.new, tallies.new)
         ≡ store_replied (counted s (accepted (eeprom_write value) [] s)) }
 {
     let chip = cart.chip;
@@ -57,34 +56,28 @@ fn bit_in(cart: Cartridge, memory: &mut [u8], tallies: &mut [u16], value: u16) -
 
 pub fn eeprom_write(cart: Cartridge, memory: &mut [u8], tallies: &mut [u16], value: u16) -> Reply
     ensures { let s = tallied cart memory.old tallies.old in
-        (result, memory.new, tallies.new)
+        (reply_from cart result, memory.new, tallies.new)
         ≡ store_replied (step (eeprom_write value) [] s) }
 {
-    let refusal = cart::store_door(cart, memory.len(), tallies.len());
-    if refusal != 0 {
-        return cart::refuse(refusal, cart);
-    }
+    cart::store_door(cart, memory.len(), tallies.len())?;
     let kind = cart.kind;
     if !kind::uses_eeprom(kind) {
-        return cart::refuse(4, cart);
+        return Err(Refusal::NoEeprom);
     }
-    bit_in(cart, memory, tallies, value)
+    Ok(bit_in(cart, memory, tallies, value))
 }
 
 pub fn eeprom_read(cart: Cartridge, memory: &[u8]) -> Reply
-    ensures { (result, memory.now)
+    ensures { (reply_from cart result, memory.now)
         ≡ replied (step eeprom_read [] (state cart memory.now)) }
 {
-    let refusal = cart::door(cart, memory.len());
-    if refusal != 0 {
-        return cart::refuse(refusal, cart);
-    }
+    cart::door(cart, memory.len())?;
     let kind = cart.kind;
     let chip = cart.chip;
     let e = chip.eeprom;
     let value = eeprom::read_bit(kind::uses_eeprom(kind), e, memory);
-    cart::done(
-        value as u32,
+    Ok(cart::done(
+        u32::from(value),
         cart::with_eeprom(cart, cart.dirty, eeprom::after_read(e)),
-    )
+    ))
 }

@@ -1,4 +1,7 @@
 -- `byte_calls::save_read` meets its contract. Assumes nothing.
+use Rattle.refusal.specs.Refusals.{refusal_number}
+use Rattle.refusal.proofs.Passed.{not-0}
+use Rattle.cart.proofs.Replies.{passed-reply}
 use Rattle.cart.specs.Replies.{Reply}
 use Rattle.cart.specs.Replies.{replied}
 use Rattle.cart.proofs.Replies.{step-no, step_kept, door-yes}
@@ -11,19 +14,19 @@ use Rattle.cart.specs.Counts.{store_of}
 use Rattle.cart.specs.Replies.{state, done}
 use Rattle.byte_calls.proofs.save_read.Goals as goal
 
-pub returns-then-refusal-ne0 : goal.returns-then-refusal-ne0
+pub returns-in_err-door : goal.returns-in_err-door
 unfolding questions
-returns-then-refusal-ne0 c =
+returns-in_err-door c =
     let a = c.args in
-    ap (λ (r : Reply). (r, a.memory.now)) c.refuse.ensures
-    ∙ ap replied (sym (step-no (save_read a.address) [] (state a.cart a.memory.now) c.door-refusal.result c.door-refusal.ensures c.if-refusal-ne0.true))
+    ap (λ (r : Reply). (r, a.memory.now)) (passed-reply a.cart c.from_residual.result c.in_err-door.field-0.0 c.from_residual.ensures.1)
+    ∙ ap replied (sym (step-no (save_read a.address) [] (state a.cart a.memory.now) (refusal_number c.in_err-door.field-0.0) c.in_err-door.ensures (not-0 c.in_err-door.field-0.0)))
 
 pub read_save-requires : goal.read_save-requires
-read_save-requires c = let a = c.args in (door-yes a.cart (length a.memory.now) c.door-refusal.result c.door-refusal.ensures c.if-refusal-ne0.false).1
+read_save-requires c = let a = c.args in (door-yes a.cart (length a.memory.now) 0 c.in_ok-door.ensures refl).1
 
 pub returns : goal.returns
 unfolding questions accepted store_of
 returns c =
     let a = c.args in
-    ap (λ (r : Reply). (r, a.memory.now)) (c.done.ensures ∙ ap (λ (v : ℕ). done v a.cart) c.read_save.ensures)
-    ∙ ap replied (sym (step_kept (save_read a.address) [] (state a.cart a.memory.now) c.door-refusal.result c.door-refusal.ensures refl c.if-refusal-ne0.false))
+    ap (λ (r : Reply). (r, a.memory.now)) (c.done.ensures ∙ ap (λ (v : ℕ). done v a.cart) (c.from.ensures ∙ c.read_save.ensures))
+    ∙ ap replied (sym (step_kept (save_read a.address) [] (state a.cart a.memory.now) 0 c.in_ok-door.ensures refl refl))

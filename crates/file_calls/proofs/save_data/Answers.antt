@@ -4,6 +4,9 @@ use mathlib.Core.List.{List, [], ◌∷◌}
 use Prim.Native.Nat.{ℕ}
 use native.Mathlib.Omega.{arith}
 use lib.ListN.{length, take}
+use Rattle.refusal.specs.Refusals.{refusal_number}
+use Rattle.refusal.proofs.Passed.{not-0}
+use Rattle.cart.proofs.Replies.{passed-reply}
 use Rattle.cart.specs.Counts.{store_of}
 use Rattle.cart.specs.Replies.{Reply}
 use Rattle.lists.specs.Questions.{◌else◌}
@@ -16,37 +19,34 @@ use Rattle.cart.proofs.Replies.{step-no, step_kept, door-no, door-yes, door-more
 use Rattle.file_calls.proofs.Exports.{length-fits, length-small, holds-is, exported-is}
 use Rattle.file_calls.proofs.save_data.Goals as goal
 
-pub returns-then-refusal-ne0 : goal.returns-then-refusal-ne0
+pub returns-in_err-door : goal.returns-in_err-door
 unfolding questions
-returns-then-refusal-ne0 c =
+returns-in_err-door c =
     let a = c.args in
-    let d = c.door-refusal in
     let s = state a.cart a.memory.now in
-    let e = door-no a.cart (length a.memory.now) (holds (file_of a.cart.kind s) a.destination.now else 13 ∷ []) d.result d.ensures c.if-refusal-ne0.true in
-    ap (λ (r : Reply). (r, a.destination.now)) c.refuse.ensures ∙ ap export_replied (sym (step-no save_data a.destination.now s d.result e c.if-refusal-ne0.true))
+    let e = door-no a.cart (length a.memory.now) (holds (file_of a.cart.kind s) a.destination.now else 13 ∷ []) (refusal_number c.in_err-door.field-0.0) c.in_err-door.ensures (not-0 c.in_err-door.field-0.0) in
+    ap (λ (r : Reply). (r, a.destination.now)) (passed-reply a.cart c.from_residual.result c.in_err-door.field-0.0 c.from_residual.ensures.1) ∙ ap export_replied (sym (step-no save_data a.destination.now s (refusal_number c.in_err-door.field-0.0) e (not-0 c.in_err-door.field-0.0)))
 
 pub returns-then-destination-n : goal.returns-then-destination-n
 unfolding questions
 returns-then-destination-n c =
     let a = c.args in
-    let d = c.door-refusal in
     let s = state a.cart a.memory.now in
-    let y = door-yes a.cart (length a.memory.now) d.result d.ensures c.if-refusal-ne0.false in
-    let e = door-more a.cart (length a.memory.now) (holds (file_of a.cart.kind s) a.destination.now else 13 ∷ []) d.result d.ensures c.if-refusal-ne0.false in
+    let y = door-yes a.cart (length a.memory.now) 0 c.in_ok-door.ensures refl in
+    let e = door-more a.cart (length a.memory.now) (holds (file_of a.cart.kind s) a.destination.now else 13 ∷ []) 0 c.in_ok-door.ensures refl in
     let h = holds-is s a.destination.now a.cart.kind y.1 in
-    ap (λ (r : Reply). (r, a.destination.now)) c.refuse-then-destination-n.ensures
-    ∙ ap export_replied (sym (step-no save_data a.destination.now s 13 (sym (e ∙ rw (h, ← c.file_length-n.ensures, lt-leb _ _ c.if-destination-n.true))) (λ z. omega arith)))
+    ap export_replied (sym (step-no save_data a.destination.now s 13 (sym (e ∙ rw (h, ← c.file_length-n.ensures, lt-leb _ _ c.if-destination-n.true))) (λ z. omega arith)))
 
 pub slice_bounds-copy_file-end : goal.slice_bounds-copy_file-end
 slice_bounds-copy_file-end c =
     let a = c.args in
-    let y = door-yes a.cart (length a.memory.now) c.door-refusal.result c.door-refusal.ensures c.if-refusal-ne0.false in
+    let y = door-yes a.cart (length a.memory.now) 0 c.in_ok-door.ensures refl in
     sym (length-take-le c.file_length-n.result a.memory.now (omega (arith, c.file_length-n.ensures, y.1, length-fits a.cart.kind a.cart.chip.eeprom.large)))
 
 pub copy_file-requires : goal.copy_file-requires
 copy_file-requires c =
     let a = c.args in
-    let y = door-yes a.cart (length a.memory.now) c.door-refusal.result c.door-refusal.ensures c.if-refusal-ne0.false in
+    let y = door-yes a.cart (length a.memory.now) 0 c.in_ok-door.ensures refl in
     let l = length-take-le c.file_length-n.result a.memory.now (omega (arith, c.file_length-n.ensures, y.1, length-fits a.cart.kind a.cart.chip.eeprom.large)) in
     (omega (arith, l, c.if-destination-n.false), omega (arith, l, c.file_length-n.ensures, length-small a.cart.kind a.cart.chip.eeprom.large))
 
@@ -57,10 +57,9 @@ pub returns : goal.returns
 unfolding questions accepted store_of
 returns c =
     let a = c.args in
-    let d = c.door-refusal in
     let s = state a.cart a.memory.now in
-    let y = door-yes a.cart (length a.memory.now) d.result d.ensures c.if-refusal-ne0.false in
-    let e = door-more a.cart (length a.memory.now) (holds (file_of a.cart.kind s) a.destination.now else 13 ∷ []) d.result d.ensures c.if-refusal-ne0.false in
+    let y = door-yes a.cart (length a.memory.now) 0 c.in_ok-door.ensures refl in
+    let e = door-more a.cart (length a.memory.now) (holds (file_of a.cart.kind s) a.destination.now else 13 ∷ []) 0 c.in_ok-door.ensures refl in
     let h = holds-is s a.destination.now a.cart.kind y.1 in
     ap₂ (λ (r : Reply) (l : List ℕ). (r, l)) c.done.ensures c.copy_file.ensures
     ∙ ap (λ (n : ℕ). (done n a.cart, into (take n a.memory.now) a.destination.now)) c.file_length-n.ensures
