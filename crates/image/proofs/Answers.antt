@@ -1,18 +1,23 @@
 -- A call's answer, where its questions are answered. Assumes nothing.
-use Rattle.std.proofs.Common.{◌≡◌, ℕ, suc, ◌+◌, ◌*◌, ◌<◌, ◌≤◌, Bool, true, false, List, [], ◌∷◌, length, get_or, sym, refl, ap, Result, Ok, ◌∙◌, add-one, arith, le-leb}
+use Rattle.std.proofs.Common.{◌≡◌, ℕ, suc, ◌+◌, ◌*◌, ◌<◌, ◌≤◌, Bool, true, false, List, [], ◌∷◌, length, get_or, sym, refl, ap, Result, Ok, Err, ◌∙◌, add-one, arith, le-leb}
 use native.Mathlib.Numerals.{add-two, add-three}
-use borrow.Author.Tests.{lt-leb}
+use borrow.Author.Tests.{ne_eqb}
+use Rattle.std.specs.Result.{IsErrAnd}
 use Rattle.lists.specs.Lists.{low_value}
-use Rattle.lists.specs.Questions.{◌else◌, asked}
+use Rattle.lists.specs.Questions.{Question, asked}
 use Rattle.refusal.specs.declared.Refusal.{Refusal}
-use Rattle.refusal.specs.Refusals.{number_of}
+use Rattle.refusal.specs.Refusals.{refusal_number}
+use Rattle.refusal.proofs.Passed.{not-0}
 use Rattle.lists.proofs.Digits.{low-at}
-use Rattle.image.specs.Image.{image_length, image_question, accepted, answered, read_at}
+use Rattle.image.specs.Image.{accepted, refused, answer_of, answered, read_at}
 
--- after a length that question 1 takes
-pub image-yes : {A : Type 0} (image : List ℕ) (v x : ℕ) {r : Result A Refusal} {y : A}
-    → number_of r ≡ asked (image_length (length image) else 1 ∷ []) → r ≡ Ok y → x ≡ v → accepted x ≡ answered (image_question image ∷ []) v
-image-yes image v x q e h = ap accepted h ∙ rw (sym q ∙ ap number_of e)
+-- a refusal that a `?` passes on, and an accepted call
+pub answered-no : (qs : List Question) (v : ℕ) (t : Result ℕ Refusal) (e : Refusal) → IsErrAnd t (λ f. f ≡ e) → refusal_number e ≡ asked qs → answer_of t ≡ answered qs v
+answered-no qs v (Ok x) e h q = absurd h
+answered-no qs v (Err f) e h q = ap (λ (r : Refusal). refused (refusal_number r)) h ∙ rw (← q, ne_eqb (refusal_number e) 0 (not-0 e))
+
+pub answered-yes : (qs : List Question) (v x : ℕ) → 0 ≡ asked qs → x ≡ v → accepted x ≡ answered qs v
+answered-yes qs v x q h = ap accepted h ∙ rw (← q)
 
 -- the number of one, two, four bytes
 pub read-1 : (image : List ℕ) (a : ℕ) → get_or image a 0 ≡ read_at 1 image a

@@ -1,6 +1,6 @@
-use Rattle.std.proofs.Common.{rules, ◌∙◌}
-use Rattle.image.specs.Image.{read, read_at}
-use Rattle.image.proofs.Answers.{image-yes, read-1}
+use Rattle.std.proofs.Common.{rules, [], ◌∷◌, ◌∙◌}
+use Rattle.image.specs.Image.{image_question, read, read_at}
+use Rattle.image.proofs.Answers.{answered-yes, read-1}
 use Rattle.image.proofs.reads.read.Goals as goal
 
 pub returns-in_err-ask_length : goal.returns-in_err-ask_length
@@ -11,5 +11,4 @@ pub returns : goal.returns
 unfolding read
 returns c =
     let a = c.args in
-    image-yes a.image.now (read_at 1 a.image.now a.address) _
-    c.ask_length.ensures c.in_ok-ask_length.was (c.byte_at.ensures ∙ read-1 a.image.now a.address)
+    answered-yes (image_question a.image.now ∷ []) (read_at 1 a.image.now a.address) _ c.in_ok-ask_length.ensures (c.byte_at.ensures ∙ read-1 a.image.now a.address)
