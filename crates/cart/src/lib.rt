@@ -6,7 +6,7 @@ mod questions;
 
 ghost use Rattle.std.specs.Prelude.{◌≡◌};
 ghost use Rattle.cart.specs.Record.{fresh_chip, is_large, fresh_cart};
-ghost use Rattle.cart.specs.Replies.{accepted_reply, done, stored};
+ghost use Rattle.cart.specs.Replies.{accepted_reply, reply_from, done, stored};
 ghost use Rattle.cart.specs.Replies.{chip_record, cart_with};
 
 use chip_record::ChipRecord;
@@ -40,6 +40,26 @@ pub struct Accepted {
 
 // A refused call leaves the record as given.
 pub type Reply = Result<Accepted, Refusal>;
+
+// The record after a call that was passed the record `cart`.
+pub fn record_after(cart: Cartridge, reply: Reply) -> Cartridge
+    ensures { result ≡ (reply_from cart reply).cart }
+{
+    match reply {
+        Ok(accepted) => accepted.cart,
+        Err(_) => cart,
+    }
+}
+
+// The number that a call answers; 0 stands for none.
+pub fn value_of(reply: Reply) -> u32
+    ensures { (cart : Cartridge) → result ≡ (reply_from cart reply).value }
+{
+    match reply {
+        Ok(accepted) => accepted.value,
+        Err(_) => 0,
+    }
+}
 
 // Of a call that stores nothing.
 pub fn done(value: u32, cart: Cartridge) -> Accepted

@@ -6,7 +6,10 @@ use mathlib.Core.Option.{Option, none, some}
 use Prim.Native.Nat.{ℕ, ◌≤◌}
 use native.Mathlib.Omega.{arith}
 use lib.Dec.{eqb}
-use lib.ListN.{length, take}
+use lib.ListN.{length, take, replicate}
+use Rattle.std.proofs.Common.{Result, Ok, Err}
+use Rattle.std.specs.Result.{result_unwrap_or}
+use Rattle.refusal.specs.declared.Refusal.{Refusal}
 use lib.Seq.{length-take-le, take-append-le}
 use borrow.Author.Tests.{eq-eqb, ne_eqb, leb-true}
 use Rattle.lists.proofs.Parts.{front_of, length-into}
@@ -14,14 +17,14 @@ use Rattle.kind.specs.Kind.{memory_size}
 use Rattle.cart.specs.declared.Cartridge.{Cartridge}
 use Rattle.cart.specs.Replies.{Reply}
 use Rattle.chip_record.specs.ChipState.{chip_bytes}
-use Rattle.chip_record.specs.States.{state_bytes}
+use Rattle.chip_record.specs.States.{state_size, state_bytes}
 use Rattle.cart.specs.Record.{State, Outcome, record_allowed}
 use Rattle.cart.specs.Calls.{save_data, chip_state, file_of, holds, exported, step, restore}
 use Rattle.cart.specs.Cut.{file_left, bytes_left, reloaded}
 use Rattle.cart.specs.Replies.{state, tallied, first, replied, export_replied}
 use Rattle.cart.proofs.Resume.{file-fits, export-accepted, state-accepted, file-left, bytes_left_lem, Long, file-long}
 use Rattle.cart.proofs.Stretches.{restored-apart}
-use Rattle.state_calls.specs.StateAnswer.{or_zeros}
+use Rattle.state_calls.specs.StateAnswer.{state_answer_from, or_zeros}
 use Rattle.cut_call.specs.Loads.{loaded_from}
 
 -- what the code loads from: the front of the destination, as long as the export answers
@@ -75,6 +78,10 @@ module _ (scratch d' : List ℕ) (cart : Cartridge) (m : List ℕ) (r : Reply) (
       ∙ ap (λ (x : Outcome). loaded_from (kept x) t) o
       ∙ reload-is (file_of cart.kind s) d s t (file-long cart.kind s b)
       ∙ ap (λ (f : Option (List ℕ)). reloaded f t) (sym (file-left s a y))
+
+pub bytes-or : (t : Result (List ℕ) Refusal) → (state_answer_from t).bytes ≡ result_unwrap_or t (replicate state_size 0)
+bytes-or (Ok b) = refl
+bytes-or (Err r) = refl
 
 pub bytes-are : (s : State) → record_allowed s.cart ≡ true → or_zeros (step chip_state [] s).given ≡ bytes_left s
 unfolding state_bytes chip_bytes

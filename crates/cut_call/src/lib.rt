@@ -11,6 +11,7 @@ ghost use Rattle.cart.specs.Replies.{tallied};
 ghost use Rattle.cut_call.specs.Loads.{loaded_from, resumed};
 
 use cart::Cartridge;
+use chip_record::STATE_SIZE;
 
 // An empty file means that there is none.
 fn load_where_there_is_one(
@@ -22,11 +23,10 @@ fn load_where_there_is_one(
     ensures { tallied result memory.new tallies.new
         ≡ loaded_from file.now (tallied cart memory.old tallies.old) }
 {
-    if file.len() == 0 {
+    if file.is_empty() {
         return cart;
     }
-    let loaded = file_calls::load_save(cart, memory, tallies, file);
-    loaded.cart
+    cart::record_after(cart, file_calls::load_save(cart, memory, tallies, file))
 }
 
 // Opens the same image with the same part, loads the file and restores the chip.
@@ -43,10 +43,9 @@ fn resume(
         file.now bytes.now }
 {
     let opened = state_calls::from_number(image, part, memory, tallies);
-    let fresh = opened.cart;
+    let fresh = cart::record_after(state_calls::no_cart(), opened);
     let loaded = load_where_there_is_one(fresh, memory, tallies, file);
-    let restored = state_calls::restore_chip_state(loaded, bytes);
-    restored.cart
+    cart::record_after(loaded, state_calls::restore_chip_state(loaded, bytes))
 }
 
 // The scratch holds the file between export and load.
@@ -68,8 +67,7 @@ pub fn cut(
 {
     let n = memory.len();
     let exported = file_calls::save_data(cart, memory, &mut scratch[..n]);
-    let len = exported.value as usize;
-    let kept = state_calls::chip_state(cart);
-    let bytes = kept.bytes;
+    let len = cart::value_of(exported) as usize;
+    let bytes = state_calls::chip_state(cart).unwrap_or([0; STATE_SIZE]);
     resume(image, part, memory, tallies, &scratch[..len], &bytes)
 }
