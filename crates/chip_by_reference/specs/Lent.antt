@@ -1,6 +1,6 @@
 -- The serial bit in with the chip record apart. Document 01: "the serial bit in also comes as one thin call on a chip
 -- record lent to be changed, its other answers those of the plain call".
-use Rattle.std.specs.Prelude.{Bool, List, [], ℕ}
+use Rattle.std.specs.Prelude.{Bool, List, [], ℕ, Result, Ok, Err}
 use Rattle.kind.specs.declared.SaveType.{SaveType}
 use Rattle.part.specs.declared.Part.{Part}
 use Rattle.chip_record.specs.declared.ChipRecord.{ChipRecord}
@@ -8,7 +8,20 @@ use Rattle.cart.specs.declared.Cartridge.{Cartridge}
 use Rattle.cart.specs.Replies.{Reply}
 use Rattle.cart.specs.Calls.{eeprom_write, step}
 use Rattle.cart.specs.Replies.{tallied, reply, store_replied}
-use Rattle.chip_by_reference.specs.declared.LentReply.{LentReply}
+use Rattle.refusal.specs.declared.Refusal.{Refusal}
+use Rattle.refusal.specs.Refusals.{refusal_number}
+use Rattle.chip_by_reference.specs.declared.Lent.{Lent}
+
+-- the number of a refusal or 0, how many bytes of the memory changed, and the changed flag after the call
+pub record LentReply : Type 0 where
+  pub refusal : ℕ
+  pub changed : ℕ
+  pub dirty : Bool
+
+-- the reply that a result is, of a call that was passed the flag
+abbrev pub lent_from : Bool → Result Lent Refusal → LentReply
+lent_from dirty (Ok l) = record { refusal = 0; changed = l.changed; dirty = l.dirty }
+lent_from dirty (Err r) = record { refusal = refusal_number r; changed = 0; dirty = dirty }
 
 -- the record that the parameters make
 abbrev pub cart_from : ℕ → SaveType → Part → Bool → ChipRecord → Cartridge
