@@ -20,47 +20,41 @@ pub fn read(image: &[u8], address: u32, value: &mut u32) -> u32
     ensures { (result, value.new)
         ≡ answered_at (read 1 image.now address) value.old }
 {
-    let byte = image::read(image, address);
-    out_params::tell(byte.refusal, byte.value, value)
+    out_params::tell(image::read(image, address), value)
 }
 
 pub fn read16(image: &[u8], address: u32, value: &mut u32) -> u32
     ensures { (result, value.new)
         ≡ answered_at (read 2 image.now address) value.old }
 {
-    let half = image::read16(image, address);
-    out_params::tell(half.refusal, half.value, value)
+    out_params::tell(image::read16(image, address), value)
 }
 
 pub fn read32(image: &[u8], address: u32, value: &mut u32) -> u32
     ensures { (result, value.new)
         ≡ answered_at (read 4 image.now address) value.old }
 {
-    let word = image::read32(image, address);
-    out_params::tell(word.refusal, word.value, value)
+    out_params::tell(image::read32(image, address), value)
 }
 
 pub fn header_checksum(image: &[u8], value: &mut u32) -> u32
     ensures { (result, value.new)
         ≡ answered_at (header_checksum image.now) value.old }
 {
-    let sum = image::header_checksum(image);
-    out_params::tell(sum.refusal, sum.value, value)
+    out_params::tell(image::header_checksum(image), value)
 }
 
 pub fn title(image: &[u8], destination: &mut [u8], length: &mut u32) -> u32
     ensures { (result, destination.new, length.new)
         ≡ title_at (header_title image.now destination.old) length.old }
 {
-    let title = title::header_title(image, destination);
-    out_params::tell(title.refusal, title.value, length)
+    out_params::tell(title::header_title(image, destination), length)
 }
 
 pub fn rom_crc(image: &[u8], value: &mut u32) -> u32
     ensures { (result, value.new) ≡ answered_at (rom_crc image.now) value.old }
 {
-    let crc = crc::rom_crc(image);
-    out_params::tell(crc.refusal, crc.value, value)
+    out_params::tell(crc::rom_crc(image), value)
 }
 
 pub fn detect_save_type(image: &[u8], kind: &mut u32) -> u32

@@ -10,10 +10,11 @@ mod table;
 mod words;
 
 ghost use Rattle.std.specs.Prelude.{◌≡◌};
+ghost use Rattle.image.specs.Image.{answer_of};
 ghost use Rattle.crc.specs.Crc.{crc32, rom_crc};
 
-use image::Answer;
 pub use pieces::{crc_feed, crc_finish, crc_start};
+use refusal::Refusal;
 
 pub fn crc32(s: &[u8]) -> u32
     ensures { result ≡ crc32 s.now }
@@ -21,11 +22,9 @@ pub fn crc32(s: &[u8]) -> u32
     crc_finish(crc_feed(crc_start(), s))
 }
 
-pub fn rom_crc(image: &[u8]) -> Answer
-    ensures { result ≡ rom_crc image.now }
+pub fn rom_crc(image: &[u8]) -> Result<u32, Refusal>
+    ensures { answer_of result ≡ rom_crc image.now }
 {
-    if !image::image_length(image.len()) {
-        return image::refuse(1);
-    }
-    image::accept(crc32(image))
+    image::ask_length(image.len())?;
+    Ok(crc32(image))
 }

@@ -3,15 +3,20 @@
 #![tactic(auto)]
 
 ghost use Rattle.std.specs.Prelude.{◌≡◌};
-ghost use Rattle.out_params.specs.Places.{told};
+ghost use Rattle.image.specs.Image.{answer_of};
+ghost use Rattle.out_params.specs.Places.{answered_at};
 
-// Writes a value to an out-parameter; a refused call leaves it.
-pub fn tell(refusal: u8, value: u32, place: &mut u32) -> u32
-    ensures { (result, place.new) ≡ told refusal value place.old }
+use refusal::Refusal;
+
+// Writes an answer to an out-parameter; a refused call leaves it. Returns the number of the refusal or 0.
+pub fn tell(answer: Result<u32, Refusal>, place: &mut u32) -> u32
+    ensures { (result, place.new) ≡ answered_at (answer_of answer) place.old }
 {
-    if refusal != 0 {
-        return refusal as u32;
+    match answer {
+        Ok(value) => {
+            *place = value;
+            0
+        }
+        Err(refusal) => u32::from(refusal.number()),
     }
-    *place = value;
-    0
 }

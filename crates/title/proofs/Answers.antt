@@ -7,14 +7,13 @@ use lib.Seq.{length-take-le}
 use borrow.Author.Tests.{le-leb, lt-leb}
 use Rattle.lists.specs.Lists.{into}
 use Rattle.lists.proofs.Parts.{slice-part}
-use Rattle.image.specs.Image.{Answer}
 use Rattle.image.specs.Image.{accepted, refused}
 use Rattle.title.specs.Title.{replaced, trimmed, title_bytes, header_title}
 
 -- the title asks for 192 bytes, then for room; k bytes of `text` are the title
-pub title-short : (image d : List ℕ) {r : Answer} → length image < 192 → r ≡ refused 1 → (r, d) ≡ header_title image d
+pub title-short : (image d : List ℕ) → length image < 192 → (refused 1, d) ≡ header_title image d
 unfolding header_title
-title-short image d h e = rw (e, lt-leb 192 (length image) h)
+title-short image d h = rw (lt-leb 192 (length image) h)
 
 pub title-text : (image text : List ℕ) (n k : ℕ) → take n text ≡ replaced 0 (take 12 (drop 0xa0 image)) → take k text ≡ trimmed (take n text)
     → take k text ≡ title_bytes image
@@ -25,10 +24,10 @@ module _ (image d text : List ℕ) (k : ℕ) (h : 192 ≤ length image) (l : k �
   title-length : length (title_bytes image) ≡ k
   title-length = ap length (sym t) ∙ length-take-le k text l
 
-  pub title-13 : {r : Answer} → length d < k → r ≡ refused 13 → (r, d) ≡ header_title image d
+  pub title-13 : length d < k → (refused 13, d) ≡ header_title image d
   unfolding header_title
-  title-13 q e = rw (e, le-leb 192 (length image) h, title-length, lt-leb k (length d) q)
+  title-13 q = rw (le-leb 192 (length image) h, title-length, lt-leb k (length d) q)
 
-  pub title-done : {r : Answer} {out : List ℕ} → k ≤ length d → r ≡ accepted k → out ≡ into (take k text) d → (r, out) ≡ header_title image d
+  pub title-done : {out : List ℕ} → k ≤ length d → out ≡ into (take k text) d → (accepted k, out) ≡ header_title image d
   unfolding header_title
-  title-done q e f = rw (e, f, t, le-leb 192 (length image) h, title-length, le-leb k (length d) q)
+  title-done q f = rw (f, t, le-leb 192 (length image) h, title-length, le-leb k (length d) q)

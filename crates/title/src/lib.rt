@@ -5,9 +5,10 @@
 mod utf8;
 
 ghost use Rattle.std.specs.Prelude.{◌≡◌, ◌*◌, ◌<◌, ◌≤◌, length, take};
+ghost use Rattle.image.specs.Image.{answer_of};
 ghost use Rattle.title.specs.Title.{showing, replaced, trimmed, header_title};
 
-use image::Answer;
+use refusal::Refusal;
 
 // What a text begins with: a well-formed UTF-8 sequence, or the maximal subpart of an ill-formed one, by its length.
 #[derive(Clone, Copy)]
@@ -73,19 +74,19 @@ fn trim(s: &[u8], n: usize) -> usize
     0
 }
 
-pub fn header_title(image: &[u8], destination: &mut [u8]) -> Answer
-    ensures { (result, destination.new)
+pub fn header_title(image: &[u8], destination: &mut [u8]) -> Result<u32, Refusal>
+    ensures { (answer_of result, destination.new)
         ≡ header_title image.now destination.old }
 {
     if image.len() < 192 {
-        return image::refuse(1);
+        return Err(Refusal::ImageLength);
     }
     let mut text = [0u8; 36];
     let n = replace(&mut text, &image[0xA0..0xAC]);
     let len = trim(&text, n);
     if destination.len() < len {
-        return image::refuse(13);
+        return Err(Refusal::Destination);
     }
     lists::copy(destination, &text[..len]);
-    image::accept(len as u32)
+    Ok(len as u32)
 }

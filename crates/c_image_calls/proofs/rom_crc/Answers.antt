@@ -1,6 +1,8 @@
 -- `c_image_calls::rom_crc` meets its contract. Assumes nothing.
-use Rattle.out_params.proofs.Answered.{answered}
+use Rattle.std.proofs.Common.{ap, ◌∙◌}
+use Rattle.image.specs.Image.{Answer}
+use Rattle.out_params.specs.Places.{answered_at}
 use Rattle.c_image_calls.proofs.rom_crc.Goals as goal
 
 pub returns : goal.returns
-returns c = answered c.rom_crc-crc.result c.args.value.now c.tell.ensures c.rom_crc-crc.ensures
+returns c = c.tell.ensures ∙ ap (λ (a : Answer). answered_at a c.args.value.now) c.rom_crc.ensures

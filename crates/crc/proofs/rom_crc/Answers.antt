@@ -1,17 +1,15 @@
+use Rattle.std.proofs.Common.{[], ◌∷◌}
+use Rattle.image.specs.Image.{image_question}
+use Rattle.image.proofs.Answers.{answered-no, answered-yes}
 use Rattle.crc.specs.Crc.{crc32, rom_crc}
-use Rattle.image.proofs.Answers.{image-no, image-yes}
 use Rattle.crc.proofs.rom_crc.Goals as goal
 
-pub returns-then-not-image_length : goal.returns-then-not-image_length
+pub returns-in_err-ask_length : goal.returns-in_err-ask_length
 unfolding rom_crc
-returns-then-not-image_length c =
-    let q = c.image_length in
+returns-in_err-ask_length c =
     let s = c.args.image.now in
-    image-no s (crc32 s) q.result q.ensures c.if-not-image_length.true c.refuse.ensures
+    answered-no (image_question s ∷ []) (crc32 s) c.from_residual.result c.in_err-ask_length.field-0.0 c.from_residual.ensures.1 c.in_err-ask_length.ensures
 
 pub returns : goal.returns
 unfolding rom_crc
-returns c =
-    let q = c.image_length in
-    let s = c.args.image.now in
-    image-yes s (crc32 s) q.result q.ensures c.crc32.result c.if-not-image_length.false c.accept.ensures c.crc32.ensures
+returns c = let s = c.args.image.now in answered-yes (image_question s ∷ []) (crc32 s) _ c.in_ok-ask_length.ensures c.crc32.ensures

@@ -1,9 +1,7 @@
--- `out_params::tell` meets its contract. Assumes nothing.
+use Rattle.std.proofs.Common.{◌∙◌}
 use borrow.Author.Tests.{ne_eqb}
+use Rattle.refusal.proofs.Passed.{not-0}
 use Rattle.out_params.proofs.tell.Goals as goal
 
-pub returns-then-refusal-ne0 : goal.returns-then-refusal-ne0
-returns-then-refusal-ne0 c = rw (ne_eqb _ _ c.if-refusal-ne0.true)
-
-pub returns : goal.returns
-returns c = rw c.if-refusal-ne0.false
+pub returns-in-Err : goal.returns-in-Err
+returns-in-Err c = rw (c.in-Err.is, ne_eqb _ 0 (not-0 c.in-Err.refusal), c.from.ensures ∙ c.number.ensures)
