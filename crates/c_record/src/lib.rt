@@ -54,7 +54,7 @@ fn valid(bytes: &[u8]) -> bool
     if !image::image_length(lists::low32(bytes[0], bytes[1], bytes[2], bytes[3]) as usize) {
         return false;
     }
-    chip_record::field_questions(&bytes[layout::CHIP..layout::PART]) == 0
+    chip_record::field_questions(&bytes[layout::CHIP..layout::PART]).is_ok()
 }
 
 pub fn is_record(cart: &RecordBytes) -> bool

@@ -21,9 +21,11 @@ pub fn from_bytes(
         ≡ opens image.now part memory.old tallies.old }
 {
     let opened = state_calls::from_number(image, part, memory, tallies);
-    let next = opened.cart;
-    *cart = c_record::record_bytes(next);
-    opened.refusal as u32
+    *cart = c_record::record_bytes(cart::record_after(state_calls::no_cart(), opened));
+    match opened {
+        Ok(_) => 0,
+        Err(refusal) => u32::from(refusal.number()),
+    }
 }
 
 // A state of layout 2, out of a record: the chip record's bytes, the flag, the layout's number.
@@ -75,9 +77,8 @@ pub fn restore_chip_state(cart: &mut RecordBytes, bytes: &[u8]) -> u32
     if !c_record::is_record(cart) {
         return 2;
     }
-    let refusal = chip_record::state_questions(bytes);
-    if refusal != 0 {
-        return refusal as u32;
+    if let Err(refusal) = chip_record::state_questions(bytes) {
+        return u32::from(refusal.number());
     }
     copy_in(&mut cart[..], &bytes[..state::CHIP_SIZE]);
     put_flag(cart, bytes);

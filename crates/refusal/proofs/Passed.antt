@@ -1,6 +1,8 @@
 -- What a `?` passes on. Assumes nothing.
-use Rattle.std.proofs.Common.{◌≡◌, ◌≢◌, ◌<◌, Result, Ok, Err, ap, arith}
-use Rattle.std.specs.Result.{IsErrAnd}
+use Rattle.std.proofs.Common.{◌≡◌, ◌≢◌, ◌<◌, Result, Ok, Err, refl, sym, ap, arith}
+use lib.Dec.{eqb}
+use borrow.Author.Tests.{ne_eqb}
+use Rattle.std.specs.Result.{IsErrAnd, is_ok}
 use Rattle.refusal.specs.declared.Refusal.{Refusal}
 use Rattle.refusal.specs.declared.Refusal.TheVariants.{ImageLength, Record, MemoryLength, NoEeprom, AddressUnderWay, StateLength, Phase}
 use Rattle.refusal.specs.declared.Refusal.TheVariants.{FlashState, Flags, Width, Places, Count, Destination, FileLength, Part, Tallies}
@@ -37,3 +39,8 @@ positive NoList = omega arith
 
 pub not-0 : (e : Refusal) → refusal_number e ≢ 0
 not-0 e z = omega (arith, positive e)
+
+-- nothing is refused
+pub ok-is : {A : Type 0} (t : Result A Refusal) → is_ok t ≡ eqb (number_of t) 0
+ok-is (Ok x) = refl
+ok-is (Err e) = sym (ne_eqb (refusal_number e) 0 (not-0 e))

@@ -2,6 +2,7 @@
 use mathlib.Core.Path.{ap, ◌∙◌}
 use native.Mathlib.Omega.{arith}
 use Rattle.lists.proofs.Bools.{denied, granted}
+use Rattle.refusal.proofs.Passed.{ok-is}
 use Rattle.image.specs.Image.{image_length}
 use Rattle.c_record.proofs.RecordBytes.{low-four, valid-record, no_part, no_flag, no_length, by-chip}
 use Rattle.c_record.proofs.valid.Goals as goal
@@ -36,4 +37,4 @@ returns c =
     let s = g in
     let r = s.args.bytes.now in
     let l = granted _ (t.image_length.ensures ∙ ap image_length (t.low32.ensures ∙ low-four r)) t.if-not-image_length.false in
-    record { value = by-chip r s.requires (granted _ g.kind_and_part.ensures g.if-not-kind_and_part.false) f.if-bytes-gt1.false l c.field_questions.ensures; valid = valid-record r (λ i. omega (arith, g.type_inv.bytes i)) }
+    record { value = c.is_ok.ensures.value ∙ ok-is c.field_questions.result ∙ by-chip r s.requires (granted _ g.kind_and_part.ensures g.if-not-kind_and_part.false) f.if-bytes-gt1.false l c.field_questions.ensures; valid = valid-record r (λ i. omega (arith, g.type_inv.bytes i)) }

@@ -1,6 +1,9 @@
 -- `c_state_calls::states::restore_chip_state` meets its contract. Assumes nothing.
 use mathlib.Core.Path.{sym, ap, ◌∙◌}
 use mathlib.Core.List.{[]}
+use Prim.Native.Nat.{ℕ}
+use Rattle.refusal.specs.Refusals.{refusal_number, number_of}
+use Rattle.refusal.proofs.Passed.{not-0}
 use native.Mathlib.Omega.{arith}
 use lib.Seq.{length-take-le}
 use Rattle.lists.proofs.Bools.{denied, granted}
@@ -18,21 +21,24 @@ returns-then-not-is_record c =
     let a = c.args in
     λ m. ap plain (no_record (restore a.bytes.now) [] a.cart.now m [] (denied _ c.is_record.ensures.value c.if-not-is_record.true))
 
-pub returns-then-refusal-ne0 : goal.returns-then-refusal-ne0
-returns-then-refusal-ne0 c =
+pub returns-in-Err : goal.returns-in-Err
+returns-in-Err c =
     let a = c.args in
     let i = c.is_record.ensures in
-    λ m. restore-no a.cart.now (i.valid (granted _ i.value c.if-not-is_record.false)) a.bytes.now m _ c.state_questions-refusal.ensures c.if-refusal-ne0.true
+    let e = c.in-Err.refusal in
+    λ m.
+    ap (λ (n : ℕ). (n, a.cart.now, m)) (c.from.ensures ∙ c.number.ensures)
+    ∙ restore-no a.cart.now (i.valid (granted _ i.value c.if-not-is_record.false)) a.bytes.now m (refusal_number e) (sym (ap number_of c.in-Err.is) ∙ c.state_questions.ensures) (not-0 e)
 
 pub slice_bounds-copy_in-end-2 : goal.slice_bounds-copy_in-end-2
 slice_bounds-copy_in-end-2 c =
     let b = c.args.bytes.now in
-    sym (length-take-le 18 b (taken b (sym c.state_questions-refusal.ensures ∙ c.if-refusal-ne0.false)).long)
+    sym (length-take-le 18 b (taken b (sym c.state_questions.ensures ∙ ap number_of c.in_default.is)).long)
 
 pub copy_in-requires : goal.copy_in-requires
 copy_in-requires c =
     let b = c.args.bytes.now in
-    (search rules, length-take-le 18 b (taken b (sym c.state_questions-refusal.ensures ∙ c.if-refusal-ne0.false)).long)
+    (search rules, length-take-le 18 b (taken b (sym c.state_questions.ensures ∙ ap number_of c.in_default.is)).long)
 
 pub returns : goal.returns
 returns c =
@@ -40,5 +46,5 @@ returns c =
     let i = c.is_record.ensures in
     let k = are-bytes a.bytes.now (λ j. omega (arith, c.type_inv.bytes j)) in
     λ m.
-    restore-yes a.cart.now (i.valid (granted _ i.value c.if-not-is_record.false)) a.bytes.now m _ c.state_questions-refusal.ensures c.if-refusal-ne0.false k
+    restore-yes a.cart.now (i.valid (granted _ i.value c.if-not-is_record.false)) a.bytes.now m _ c.state_questions.ensures (ap number_of c.in_default.is) k
     c.copy_in.ensures c.put_flag.ensures
