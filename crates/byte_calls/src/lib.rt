@@ -15,11 +15,7 @@ fn read_save(cart: Cartridge, memory: &[u8], address: u32) -> u8
     requires { length memory.now ≡ memory_size cart.kind }
     ensures { result ≡ read_save cart.kind (state cart memory.now) address }
 {
-    let kind = cart.kind;
-    let part = cart.part;
-    let chip = cart.chip;
-    let flash = chip.flash;
-    byte_step::read_byte(kind, part, flash, memory, address)
+    byte_step::read_byte(cart.kind, cart.part, cart.chip.flash, memory, address)
 }
 
 pub fn save_read(cart: Cartridge, memory: &[u8], address: u32) -> Reply
@@ -44,16 +40,12 @@ fn write_save(
         (accepted_reply result, memory.new, tallies.new)
         ≡ store_replied (counted s (accepted (save_write address value) [] s)) }
 {
-    let kind = cart.kind;
-    let chip = cart.chip;
-    let flash = chip.flash;
-    let t = byte_step::write_byte(kind, flash, memory.len(), address, value);
-    let store = t.store;
-    let next = t.flash;
-    let changed = memory::apply(store, &NO_FILE, memory, tallies);
+    let flash = cart.chip.flash;
+    let t = byte_step::write_byte(cart.kind, flash, memory.len(), address, value);
+    let changed = memory::apply(t.store, &NO_FILE, memory, tallies);
     cart::stored(
         changed,
-        cart::with_flash(cart, memory::flag_after(t.sets, cart.dirty), next),
+        cart::with_flash(cart, memory::flag_after(t.sets, cart.dirty), t.flash),
     )
 }
 

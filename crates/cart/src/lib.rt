@@ -103,7 +103,14 @@ pub fn with_flash(cart: Cartridge, dirty: bool, flash: Flash) -> Cartridge
 pub fn with_eeprom(cart: Cartridge, dirty: bool, eeprom: Eeprom) -> Cartridge
     ensures { result ≡ cart_with cart dirty (chip_record cart.chip.flash eeprom) }
 {
-    cart_with(cart, dirty, ChipRecord { eeprom, ..cart.chip })
+    cart_with(
+        cart,
+        dirty,
+        ChipRecord {
+            eeprom,
+            ..cart.chip
+        },
+    )
 }
 
 fn fresh_chip(large: bool) -> ChipRecord

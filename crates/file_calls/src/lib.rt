@@ -30,16 +30,14 @@ fn load(cart: Cartridge, memory: &mut [u8], tallies: &mut [u16], file: &[u8]) ->
         (accepted_reply result, memory.new, tallies.new)
         ≡ store_replied (counted s (accepted (load_save file.now) [] s)) }
 {
-    let kind = cart.kind;
-    let chip = cart.chip;
-    let e = chip.eeprom;
+    let e = cart.chip.eeprom;
     let changed = memory::apply(Store::File, file, memory, tallies);
     cart::stored(
         changed,
         cart::with_eeprom(
             cart,
             cart.dirty,
-            eeprom::told(e.width, large_after(kind, e.large, file.len()), e),
+            eeprom::told(e.width, large_after(cart.kind, e.large, file.len()), e),
         ),
     )
 }
@@ -75,10 +73,7 @@ pub fn save_data(cart: Cartridge, memory: &[u8], destination: &mut [u8]) -> Repl
         ≡ export_replied (step save_data destination.old (state cart memory.now)) }
 {
     cart::door(cart, memory.len())?;
-    let kind = cart.kind;
-    let chip = cart.chip;
-    let e = chip.eeprom;
-    let n = file_length(kind, e.large);
+    let n = file_length(cart.kind, cart.chip.eeprom.large);
     if destination.len() < n {
         return Err(Refusal::Destination);
     }

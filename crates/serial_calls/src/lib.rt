@@ -17,8 +17,7 @@ pub fn eeprom_begin_dma(cart: Cartridge, words: usize) -> Reply
     ensures { (m : List ℕ) → (reply_from cart result, m) ≡ replied (step (eeprom_begin_dma words) [] (state cart m)) }
 {
     cart::ask_record(cart)?;
-    let chip = cart.chip;
-    let e = chip.eeprom;
+    let e = cart.chip.eeprom;
     if !eeprom::dma_allowed(words, e) {
         return Err(Refusal::AddressUnderWay);
     }
@@ -38,18 +37,14 @@ fn bit_in(cart: Cartridge, memory: &mut [u8], tallies: &mut [u16], value: u16) -
         (accepted_reply result, memory.new, tallies.new)
         ≡ store_replied (counted s (accepted (eeprom_write value) [] s)) }
 {
-    let chip = cart.chip;
-    let e = chip.eeprom;
-    let t = eeprom::write_bit(e, (value % 2) as u64);
-    let store = t.store;
-    let next = t.eeprom;
-    let changed = memory::apply(store, &NO_FILE, memory, tallies);
+    let t = eeprom::write_bit(cart.chip.eeprom, (value % 2) as u64);
+    let changed = memory::apply(t.store, &NO_FILE, memory, tallies);
     cart::stored(
         changed,
         cart::with_eeprom(
             cart,
-            memory::flag_after(memory::stores(store), cart.dirty),
-            next,
+            memory::flag_after(memory::stores(t.store), cart.dirty),
+            t.eeprom,
         ),
     )
 }
@@ -60,8 +55,7 @@ pub fn eeprom_write(cart: Cartridge, memory: &mut [u8], tallies: &mut [u16], val
         ≡ store_replied (step (eeprom_write value) [] s) }
 {
     cart::store_door(cart, memory.len(), tallies.len())?;
-    let kind = cart.kind;
-    if !kind::uses_eeprom(kind) {
+    if !kind::uses_eeprom(cart.kind) {
         return Err(Refusal::NoEeprom);
     }
     Ok(bit_in(cart, memory, tallies, value))
@@ -72,10 +66,8 @@ pub fn eeprom_read(cart: Cartridge, memory: &[u8]) -> Reply
         ≡ replied (step eeprom_read [] (state cart memory.now)) }
 {
     cart::door(cart, memory.len())?;
-    let kind = cart.kind;
-    let chip = cart.chip;
-    let e = chip.eeprom;
-    let value = eeprom::read_bit(kind::uses_eeprom(kind), e, memory);
+    let e = cart.chip.eeprom;
+    let value = eeprom::read_bit(kind::uses_eeprom(cart.kind), e, memory);
     Ok(cart::done(
         u32::from(value),
         cart::with_eeprom(cart, cart.dirty, eeprom::after_read(e)),
