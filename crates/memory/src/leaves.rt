@@ -1,27 +1,10 @@
 // The stores, each to its own part of the memory. Each answers how many places it changed, and changes the tallies of
 // the stretches that it stores to.
-ghost use Rattle.std.specs.Prelude.{◌≡◌, [], ◌+◌, ◌*◌, ◌≤◌, ◌<◌, min, length};
-ghost use Rattle.lists.specs.Lists.{digits};
+ghost use Rattle.std.specs.Prelude.{◌≡◌, [], ◌+◌, ◌*◌, ◌≤◌, ◌<◌, length};
 ghost use Rattle.memory.specs.declared.Store.TheVariants.{Byte, Block, Sector, File};
 ghost use Rattle.memory.specs.Memory.{stored, with_count, Tallied, Fits};
 
 use crate::parts::{fill_part, replace_short};
-
-// The eight bytes of a block, highest first.
-fn word_bytes(word: u64) -> [u8; 8]
-    ensures { result ≡ digits 256 8 word }
-{
-    [
-        ((word >> 56) % 256) as u8,
-        ((word >> 48) % 256) as u8,
-        ((word >> 40) % 256) as u8,
-        ((word >> 32) % 256) as u8,
-        ((word >> 24) % 256) as u8,
-        ((word >> 16) % 256) as u8,
-        ((word >> 8) % 256) as u8,
-        (word % 256) as u8,
-    ]
-}
 
 pub fn put_byte(memory: &mut [u8], place: usize, value: u8, tallies: &mut [u16]) -> u32
     requires tallied { Tallied (length memory.old) tallies.old }
@@ -42,7 +25,7 @@ pub fn put_byte(memory: &mut [u8], place: usize, value: u8, tallies: &mut [u16])
     counts::byte_differs(old, value)
 }
 
-// A block lies within one stretch.
+// A block lies within one stretch. Its bytes are the word's, highest first.
 pub fn put_block(memory: &mut [u8], block: usize, word: u64, tallies: &mut [u16]) -> u32
     requires tallied { Tallied (length memory.old) tallies.old }
     requires block_in_bounds { 8 * block + 8 ≤ length memory.old }
@@ -54,8 +37,7 @@ pub fn put_block(memory: &mut [u8], block: usize, word: u64, tallies: &mut [u16]
     let start = 8 * block;
     let end = start + 8;
     let k = block / 512;
-    let bytes = word_bytes(word);
-    let c = replace_short(&mut memory[start..end], &bytes);
+    let c = replace_short(&mut memory[start..end], &word.to_be_bytes());
     tallies[k] = counts::retally(tallies[k], c.before, c.after);
     c.changed
 }
@@ -77,12 +59,6 @@ pub fn erase_sector(memory: &mut [u8], place: usize, tallies: &mut [u16]) -> u32
     n.changed
 }
 
-fn least(a: usize, b: usize) -> usize
-    ensures { result ≡ min a b }
-{
-    if a < b { a } else { b }
-}
-
 // FFh everywhere, then the file's first bytes: stretch by stretch, each byte written at most once.
 pub fn load(memory: &mut [u8], file: &[u8], tallies: &mut [u16]) -> u32
     requires tallied { Tallied (length memory.old) tallies.old }
@@ -93,16 +69,14 @@ pub fn load(memory: &mut [u8], file: &[u8], tallies: &mut [u16]) -> u32
         tallies.old }
 {
     let mut changed: u32 = 0;
-    let mut k = 0;
-    while k < tallies.len() {
+    for (k, tally) in tallies.iter_mut().enumerate() {
         let start = k * 4096;
         let end = start + 4096;
-        let from = least(start, file.len());
-        let to = least(end, file.len());
-        let n = fill_part(&mut memory[start..end], &file[from..to], tallies[k]);
-        tallies[k] = n.tally;
+        let from = start.min(file.len());
+        let to = end.min(file.len());
+        let n = fill_part(&mut memory[start..end], &file[from..to], *tally);
+        *tally = n.tally;
         changed += n.changed;
-        k += 1;
     }
     changed
 }
