@@ -1,12 +1,11 @@
 -- Lengths and ends of the memory behind each store. Assumes nothing.
 use mathlib.Core.Path.{◌≡◌, refl, sym, ap, subst, ◌∙◌}
-use mathlib.Core.List.{List, [], ◌++◌, append-nil}
-use Prim.Native.Nat.{ℕ, ◌+◌, ◌*◌, ◌-◌, ◌/◌, ◌≤◌}
+use mathlib.Core.List.{List, [], ◌∷◌, ◌++◌, append-nil}
+use Prim.Native.Nat.{ℕ, ◌+◌, ◌*◌, ◌-◌, ◌/◌, ◌%◌, ◌^◌, ◌≤◌}
 use native.Mathlib.Nat.{sub-zero, div-one}
 use native.Mathlib.Omega.{arith}
 use lib.ListN.{length, take, drop, length-append, length-take, length-replicate, length-drop, take-append-drop}
 use lib.Seq.{take_all, take-nil, drop-append-add, length-take-le}
-use Rattle.std.specs.Int.{to_be_bytes, w64}
 use Rattle.lists.specs.Lists.{digits, with_part}
 use Rattle.lists.proofs.Parts.{length_part, drop-part, drop-replicate}
 use Rattle.memory.specs.declared.Store.{Store}
@@ -76,10 +75,12 @@ drop-filled n k f h l =
 pub drop_block : (m : List ℕ) (k d n : ℕ) → 8 * k ≤ length m → 8 * k + 8 ≤ n → drop n (with_part m (8 * k) (digits 256 8 d)) ≡ drop n m
 drop_block m k d n h l = drop-part m (8 * k) (digits 256 8 d) n h (omega (arith, length-word d))
 
--- a word's bytes as the library gives them
-pub word-bytes : (d : ℕ) → to_be_bytes w64 d ≡ digits 256 8 d
+-- a word's bytes as shifts give them
+pub word_bytes : (d : ℕ)
+    → digits 256 8 d
+    ≡ d / 2 ^ 56 % 256 ∷ d / 2 ^ 48 % 256 ∷ d / 2 ^ 40 % 256 ∷ d / 2 ^ 32 % 256 ∷ d / 2 ^ 24 % 256 ∷ d / 2 ^ 16 % 256 ∷ d / 2 ^ 8 % 256 ∷ d % 256 ∷ []
 unfolding digits
-word-bytes d = rw (div-one d)
+word_bytes d = rw (div-one d)
 
 -- the length of the k places from a on
 pub length-mid : (m : List ℕ) (a k : ℕ) → a + k ≤ length m → length (take (a + k - a) (drop a m)) ≡ k

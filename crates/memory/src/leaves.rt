@@ -1,10 +1,28 @@
 // The stores, each to its own part of the memory. Each answers how many places it changed, and changes the tallies of
 // the stretches that it stores to.
 ghost use Rattle.std.specs.Prelude.{◌≡◌, [], ◌+◌, ◌*◌, ◌≤◌, ◌<◌, length};
+ghost use Rattle.lists.specs.Lists.{digits};
 ghost use Rattle.memory.specs.declared.Store.TheVariants.{Byte, Block, Sector, File};
 ghost use Rattle.memory.specs.Memory.{stored, with_count, Tallied, Fits};
 
 use crate::parts::{fill_part, replace_short};
+
+// The eight bytes of a block, highest first.
+// Kept: the specification names shifts as the form that takes the data bytes out.
+fn word_bytes(word: u64) -> [u8; 8]
+    ensures { result ≡ digits 256 8 word }
+{
+    [
+        ((word >> 56) % 256) as u8,
+        ((word >> 48) % 256) as u8,
+        ((word >> 40) % 256) as u8,
+        ((word >> 32) % 256) as u8,
+        ((word >> 24) % 256) as u8,
+        ((word >> 16) % 256) as u8,
+        ((word >> 8) % 256) as u8,
+        (word % 256) as u8,
+    ]
+}
 
 pub fn put_byte(memory: &mut [u8], place: usize, value: u8, tallies: &mut [u16]) -> u32
     requires tallied { Tallied (length memory.old) tallies.old }
@@ -25,7 +43,7 @@ pub fn put_byte(memory: &mut [u8], place: usize, value: u8, tallies: &mut [u16])
     counts::byte_differs(old, value)
 }
 
-// A block lies within one stretch. Its bytes are the word's, highest first.
+// A block lies within one stretch.
 pub fn put_block(memory: &mut [u8], block: usize, word: u64, tallies: &mut [u16]) -> u32
     requires tallied { Tallied (length memory.old) tallies.old }
     requires block_in_bounds { 8 * block + 8 ≤ length memory.old }
@@ -37,7 +55,8 @@ pub fn put_block(memory: &mut [u8], block: usize, word: u64, tallies: &mut [u16]
     let start = 8 * block;
     let end = start + 8;
     let k = block / 512;
-    let c = replace_short(&mut memory[start..end], &word.to_be_bytes());
+    let bytes = word_bytes(word);
+    let c = replace_short(&mut memory[start..end], &bytes);
     tallies[k] = counts::retally(tallies[k], c.before, c.after);
     c.changed
 }

@@ -5,7 +5,7 @@ use native.Mathlib.Omega.{arith}
 use lib.ListN.{length, get_or}
 use Rattle.lists.specs.Lists.{digits}
 use Rattle.memory.specs.Memory.{stored}
-use Rattle.memory.proofs.Memory.{length-word, length-mid, word-bytes}
+use Rattle.memory.proofs.Memory.{length-word, length-mid}
 use Rattle.memory.proofs.Counts.{part-counted}
 use Rattle.memory.proofs.Replaced.{replaced-noted}
 use Rattle.memory.proofs.leaves.put_block.Goals as goal
@@ -14,7 +14,7 @@ pub replace_short-c-requires : goal.replace_short-c-requires
 replace_short-c-requires c =
     let s = c in
     let l = length-mid s.args.memory.now (8 * s.args.block) 8 s.requires.block_in_bounds in
-    let w = ap length (c.to_be_bytes.ensures ∙ word-bytes s.args.word) ∙ length-word s.args.word in
+    let w = ap length c.word_bytes-bytes.ensures ∙ length-word s.args.word in
     (omega (arith, l), omega (arith, l, w))
 
 pub retally-requires : goal.retally-requires
@@ -33,7 +33,7 @@ returns c =
     let ts = s.args.tallies.now in
     let b = s.args.block in
     let a = 8 * b in
-    let d = c.to_be_bytes.ensures ∙ word-bytes w in
+    let d = c.word_bytes-bytes.ensures in
     let r = rw d at c.replace_short-c.ensures in
     let n = replaced-noted (get_or ts (b / 512) 0) (omega (arith, length-mid m a 8 s.requires.block_in_bounds)) r.part_after r.replaced c.retally.ensures in
     part-counted m ts a (a + 8) (b / 512) (digits 256 8 w) (omega (arith, length-word w)) s.requires.block_in_bounds (omega arith) (omega (arith, length-word w))
