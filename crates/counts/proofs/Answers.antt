@@ -1,15 +1,17 @@
 -- What right tallies answer is what a full reading answers. Assumes nothing.
 use mathlib.Core.Path.{◌≡◌, refl, sym, ap, ap₂, ◌∙◌}
-use mathlib.Core.Bool.{Bool, true, false}
+use mathlib.Core.Bool.{Bool, true, false, not}
 use mathlib.Core.List.{List, [], ◌∷◌, ◌++◌}
 use mathlib.Core.Option.{Option, none, some}
-use Prim.Native.Nat.{ℕ, zero, suc, ◌+◌, ◌*◌, ◌≤◌, ◌<◌}
-use native.Mathlib.Numerals.{add-one}
+use Prim.Native.Nat.{ℕ, zero, suc, ◌+◌, ◌*◌, ◌<◌}
 use native.Mathlib.Omega.{arith}
+use Rattle.std.proofs.Common.{Option as Found, None, Some}
+use Rattle.std.proofs.lemmas.Iterator.Adapters.{position_from-zero}
+use Rattle.std.specs.List.{list_all, position, position_from}
 use lib.Dec.{eqb}
-use lib.ListN.{length, take, drop, get_or, replicate, length-drop, take-append-drop, drop_of_length-le}
-use lib.Seq.{length-take-le, drop-cons}
-use borrow.Author.Tests.{ne_eqb, eqb-true, eqb-false}
+use lib.ListN.{length, take, drop, replicate, length-drop, take-append-drop}
+use lib.Seq.{length-take-le}
+use borrow.Author.Tests.{eqb-true, eqb-false}
 use Rattle.lists.proofs.Bools.{cases, and_left, and_right}
 use Rattle.counts.specs.Counts.{used}
 use Rattle.counts.specs.Tallies.{tallies_of, blank, blank_memory, next, first_in_use, first_used, stretch_of, none_in_use, in_use_number}
@@ -116,36 +118,28 @@ blank-erased [] e = refl
 blank-erased (x ∷ m) e =
     ap₂ (λ (y : ℕ) (l : List ℕ). y ∷ l) (eqb-true x 255 (and_left (eqb x 255) (blank_memory m) e)) (blank-erased m (and_right (eqb x 255) (blank_memory m) e))
 
--- one tally further, and the answer as a number
-pub first_next : (ts : List ℕ) (k : ℕ) → k < length ts → get_or ts k 0 ≡ 0 → first_in_use (drop k ts) ≡ next (first_in_use (drop (k + 1) ts))
+-- the library's search of the tallies: its answer as a number, from stretch i on
+abbrev pub number : Found ℕ → ℕ
+number None = none_in_use
+number (Some k) = k
+
+abbrev pub in_use : ℕ → Bool
+in_use tally = not (eqb tally 0)
+
+position-number : (i : ℕ) (ts : List ℕ) → number (position_from in_use i ts) ≡ in_use_number (ahead i (first_in_use ts))
 unfolding first_in_use
-first_next ts k h e = rw (drop-cons ts k 0 h, e, add-one k)
+position-number i [] = refl
+position-number i (t ∷ ts) =
+    cases (eqb t 0)
+    (λ e. rw (e, ahead-next i (first_in_use ts)) (position-number (i + 1) ts))
+    (λ e. rw e (omega arith))
 
-pub first-here : (ts : List ℕ) (k : ℕ) → k < length ts → (get_or ts k 0 ≡ 0 → ⊥) → first_in_use (drop k ts) ≡ some 0
-unfolding first_in_use
-first-here ts k h e = rw (drop-cons ts k 0 h, ne_eqb (get_or ts k 0) 0 e)
+pub first-number : {r : Found ℕ} (ts : List ℕ) → r ≡ position in_use ts → number r ≡ in_use_number (first_in_use ts)
+first-number ts e =
+    ap number (e ∙ position_from-zero in_use ts) ∙ position-number 0 ts ∙ ap in_use_number (ahead-0 (first_in_use ts))
 
-pub first-end : (ts : List ℕ) (k : ℕ) → length ts ≤ k → first_in_use (drop k ts) ≡ none
-unfolding first_in_use
-first-end ts k h = rw (drop_of_length-le ts h)
-
--- no stretch has the number that says that there is none
-abbrev Within : ℕ → Option ℕ → Type 0
-Within n none = Unit
-Within n (some k) = k < n
-
-within-next : (n : ℕ) (o : Option ℕ) → Within n o → Within (suc n) (next o)
-within-next n none w = tt
-within-next n (some k) w = omega arith
-
-within : (ts : List ℕ) → Within (length ts) (first_in_use ts)
-unfolding first_in_use
-within [] = tt
-within (t ∷ ts) = cases (eqb t 0) (λ e. rw e (within-next (length ts) (first_in_use ts) (within ts))) (λ e. rw e (omega arith))
-
-number-none : (n : ℕ) (o : Option ℕ) → n ≤ 32 → Within n o → eqb (in_use_number o) none_in_use ≡ is_none o
-number-none n none h w = refl
-number-none n (some k) h w = ne_eqb k none_in_use (λ e. absurd (omega arith))
-
-pub blank-number : (ts : List ℕ) → length ts ≤ 32 → eqb (in_use_number (first_in_use ts)) none_in_use ≡ blank ts
-blank-number ts h = number-none (length ts) (first_in_use ts) h (within ts) ∙ sym (blank_none ts)
+-- and whether it finds none
+pub all-0 : (ts : List ℕ) → list_all (λ t. eqb t 0) ts ≡ blank ts
+unfolding blank
+all-0 [] = refl
+all-0 (t ∷ ts) = rw (all-0 ts)

@@ -1,9 +1,12 @@
 -- How many places differ, and how many bytes are in use. Assumes nothing.
 use mathlib.Core.Path.{◌≡◌, refl, sym, ap, ap₂, ◌∙◌}
 use mathlib.Core.List.{List, [], ◌∷◌, ◌++◌}
-use Prim.Native.Nat.{ℕ, zero, suc, ◌+◌, ◌-◌, ◌≤◌, ◌<◌}
+use Prim.Native.Nat.{ℕ, zero, suc, ◌+◌, ◌*◌, ◌-◌, ◌≤◌, ◌<◌}
 use native.Mathlib.Numerals.{add-one}
 use native.Mathlib.Omega.{arith}
+use Rattle.std.specs.List.{sum_by, zip}
+use Rattle.std.specs.Simd.{first_chunks}
+use Rattle.std.proofs.lemmas.List.Sums.{sum_by-cons}
 use lib.Dec.{eqb}
 use lib.ListN.{length, get_or, set, take, drop, replicate, length-take, length-drop, take-append-drop, drop_of_length-le}
 use lib.Seq.{drop-drop, drop-cons, set_split}
@@ -20,6 +23,18 @@ differs-1 x y = either (λ (n : ℕ). n ≤ 1) (eqb x y) (omega arith) (omega ar
 
 differs-0 : (x y : ℕ) → differs x y ≡ 0 → x ≡ y
 differs-0 x y e = cases (eqb x y) (λ t. eqb-true x y t) (λ f. let z : differs x y ≡ 1 = rw f in absurd (omega arith))
+
+-- as sums over the places
+pub differing-sum : (l k : List ℕ) → sum_by (λ (p : ℕ × ℕ). differs p.0 p.1) (zip l k) ≡ differing l k
+unfolding differing
+differing-sum [] k = refl
+differing-sum (x ∷ l) [] = refl
+differing-sum (x ∷ l) (y ∷ k) = rw (sum_by-cons, differing-sum l k)
+
+pub used-sum : (l : List ℕ) → sum_by (λ (b : ℕ). differs b 255) l ≡ used l
+unfolding used
+used-sum [] = refl
+used-sum (x ∷ l) = rw (sum_by-cons, used-sum l)
 
 -- at most as many as there are places
 pub differing-le : (l k : List ℕ) → differing l k ≤ length l
@@ -81,14 +96,7 @@ differing-set m a v h =
     ap (differing m) (set-part m a v h) ∙ differing-part m a (v ∷ []) (omega arith)
     ∙ ap (λ (l : List ℕ). differing l (v ∷ [])) (byte_of m a h) ∙ omega arith
 
--- from place i on: one place further, as far as place e, and to the end
-pub differing-next : (l k : List ℕ) (i : ℕ) → i < length l → length l ≡ length k
-    → differing (drop i l) (drop i k) ≡ differs (get_or l i 0) (get_or k i 0) + differing (drop (i + 1) l) (drop (i + 1) k)
-unfolding differing
-differing-next l k i h e =
-    let g : i < length k = omega arith in
-    rw (drop-cons l i 0 h, drop-cons k i 0 g, add-one i)
-
+-- from place i on: as far as place e, and to the end
 pub differing-on : (l k : List ℕ) (i e : ℕ) → i ≤ e → length l ≡ length k
     → differing (drop i l) (drop i k) ≡ differing (take (e - i) (drop i l)) (take (e - i) (drop i k)) + differing (drop e l) (drop e k)
 differing-on l k i e h g =
@@ -113,10 +121,6 @@ unfolding used
 used-append [] k = omega arith
 used-append (x ∷ l) k = omega (arith, used-append l k)
 
-pub used-next : (l : List ℕ) (i : ℕ) → i < length l → used (drop i l) ≡ differs (get_or l i 0) 255 + used (drop (i + 1) l)
-unfolding used
-used-next l i h = rw (drop-cons l i 0 h, add-one i)
-
 pub used-on : (l : List ℕ) (i e : ℕ) → i ≤ e → used (drop i l) ≡ used (take (e - i) (drop i l)) + used (drop e l)
 used-on l i e h =
     let q : i + (e - i) ≡ e = omega arith in
@@ -126,6 +130,14 @@ used-on l i e h =
 pub used-end : (l : List ℕ) (i : ℕ) → length l ≤ i → used (drop i l) ≡ 0
 unfolding used
 used-end l i h = rw (drop_of_length-le l h)
+
+-- of k parts of 128 and what is left
+pub used-parts : (k : ℕ) (l : List ℕ) → sum_by used (first_chunks 128 k l) + used (drop (k * 128) l) ≡ used l
+used-parts zero l = omega arith
+used-parts (suc k) l =
+    let e : 128 + k * 128 ≡ suc k * 128 = omega arith in
+    let h = rw (drop-drop (k * 128) 128 l, e) at (used-parts k (drop 128 l)) in
+    rw sum_by-cons (omega (arith, h, used-append (take 128 l) (drop 128 l), ap used (take-append-drop 128 l)))
 
 -- FFh everywhere: none is in use, and as many differ from it as are in use
 pub used-blank : (n : ℕ) → used (replicate n 255) ≡ 0

@@ -6,13 +6,13 @@ ghost use Rattle.counts.specs.Counts.{differs, differing, used};
 fn differs(a: u8, b: u8) -> u8
     ensures { result ≡ differs a b }
 {
-    if a == b { 0 } else { 1 }
+    u8::from(a != b)
 }
 
 pub fn byte_differs(a: u8, b: u8) -> u32
     ensures { result ≡ differs a b }
 {
-    differs(a, b) as u32
+    u32::from(differs(a, b))
 }
 
 // The places at which two short parts differ.
@@ -20,13 +20,7 @@ pub fn differing_short(s: &[u8], t: &[u8]) -> u8
     requires { (length s.now ≤ 255) × (length s.now ≡ length t.now) }
     ensures { result ≡ differing s.now t.now }
 {
-    let mut n: u8 = 0;
-    let mut i = 0;
-    while i < s.len() {
-        n += differs(s[i], t[i]);
-        i += 1;
-    }
-    n
+    s.iter().zip(t).map(|(a, b)| differs(*a, *b)).sum()
 }
 
 // The bytes other than FFh of a short part.
@@ -34,13 +28,7 @@ pub fn used_short(s: &[u8]) -> u8
     requires { length s.now ≤ 255 }
     ensures { result ≡ used s.now }
 {
-    let mut n: u8 = 0;
-    let mut i = 0;
-    while i < s.len() {
-        n += differs(s[i], 0xFF);
-        i += 1;
-    }
-    n
+    s.iter().map(|b| differs(*b, 0xFF)).sum()
 }
 
 // The same of a part of at most a stretch.
@@ -48,12 +36,10 @@ pub fn used(s: &[u8]) -> u32
     requires { length s.now ≤ 4096 }
     ensures { result ≡ used s.now }
 {
-    let mut n: u32 = 0;
-    let mut i = 0;
-    while s.len() - i >= 128 {
-        let e = i + 128;
-        n += used_short(&s[i..e]) as u32;
-        i = e;
-    }
-    n + used_short(&s[i..]) as u32
+    let (parts, rest) = s.as_chunks::<128>();
+    parts
+        .iter()
+        .map(|part| u32::from(used_short(part)))
+        .sum::<u32>()
+        + u32::from(used_short(rest))
 }

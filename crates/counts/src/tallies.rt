@@ -9,11 +9,7 @@ pub const NONE_IN_USE: u32 = 4294967295;
 pub fn clear(tallies: &mut [u16])
     ensures { tallies.new ≡ replicate (length tallies.old) 0 }
 {
-    let mut i = 0;
-    while i < tallies.len() {
-        tallies[i] = 0;
-        i += 1;
-    }
+    tallies.fill(0);
 }
 
 // A stretch's tally after a store, by the bytes in use before it and after it.
@@ -21,7 +17,7 @@ pub fn retally(tally: u16, before: u32, after: u32) -> u16
     requires { (before ≤ 4096) × (after ≤ 4096) }
     ensures { result ≡ retally before after tally }
 {
-    ((65536 + tally as u32 + after - before) % 65536) as u16
+    ((65536 + u32::from(tally) + after - before) % 65536) as u16
 }
 
 // The first stretch in use, numbered from 0.
@@ -29,19 +25,15 @@ pub fn first_in_use(tallies: &[u16]) -> u32
     requires { length tallies.now ≤ 32 }
     ensures { result ≡ in_use_number (first_in_use tallies.now) }
 {
-    let mut k = 0;
-    while k < tallies.len() {
-        if tallies[k] != 0 {
-            return k as u32;
-        }
-        k += 1;
+    match tallies.iter().position(|tally| *tally != 0) {
+        Some(k) => k as u32,
+        None => NONE_IN_USE,
     }
-    NONE_IN_USE
 }
 
 pub fn is_blank(tallies: &[u16]) -> bool
     requires { length tallies.now ≤ 32 }
     ensures { result ≡ blank tallies.now }
 {
-    first_in_use(tallies) == NONE_IN_USE
+    tallies.iter().all(|tally| *tally == 0)
 }

@@ -7,11 +7,19 @@ use Prim.Native.Nat.{ℕ, ◌+◌, ◌≤◌, ◌<◌}
 use native.Mathlib.Numerals.{add-one}
 use native.Mathlib.Omega.{arith}
 use lib.Dec.{eqb}
-use lib.ListN.{length, get_or, drop, drop_of_length-le}
+use lib.Pointwise.{pointwise}
+use lib.ListN.{length, get_or, take, drop, drop_of_length-le}
 use lib.Seq.{drop-cons}
 use borrow.Author.Tests.{eq-eqb, ne_eqb, eqb-true}
 use Rattle.lists.specs.Lists.{begins}
-use Rattle.lists.proofs.Bools.{split, either}
+use Rattle.lists.proofs.Bools.{split, either, cases}
+
+-- the library's test
+pub starts-begins : (p s : List ℕ) → pointwise eqb p (take (length p) s) ≡ begins p s
+unfolding begins
+starts-begins [] s = refl
+starts-begins (b ∷ p) [] = refl
+starts-begins (b ∷ p) (c ∷ s) = rw (starts-begins p s) (cases (eqb b c) (λ e. rw e) (λ e. rw e))
 
 -- a list that is too short
 pub begins-short : (p s : List ℕ) → length s < length p → begins p s ≡ false

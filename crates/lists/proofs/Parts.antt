@@ -8,7 +8,7 @@ use native.Mathlib.Numerals.{add-one}
 use native.Mathlib.Omega.{arith}
 use lib.Dec.{eqb, leb, ltb}
 use lib.ListN.{length, get_or, set, take, drop, replicate, length-append, length-take, length-drop, take-append-drop}
-use lib.Seq.{sets, sets-eq, drop-length, take-nil, take_all, take-length, slice, slice-cons, slice_empty, drop_at, drop-append-le, take-append-le, drop-cons, get_or-set_same, get_or-set_other, drop-append-add, get_or-append-add, get_or-take, get_or-drop, drop-drop, length-take-le, take-append_seam}
+use lib.Seq.{sets, sets-eq, drop-length, take-nil, take_all, slice, slice-cons, slice_empty, drop_at, drop-append-le, take-append-le, drop-cons, get_or-set_same, get_or-set_other, drop-append-add, get_or-append-add, get_or-take, get_or-drop, drop-drop, length-take-le, take-append_seam}
 use borrow.Author.Tests.{leb-true, leb-false, ltb-true, ltb-false, eqb-true, eqb-false, eq-eqb, ne_eqb}
 use Rattle.lists.proofs.Bools.{cases}
 use Rattle.lists.specs.Lists.{fold, with_part, into}
@@ -43,7 +43,7 @@ drop-part m a ys i h k =
     ∙ drop-drop (i - a - length ys) (a + length ys) m
     ∙ ap (λ (j : ℕ). drop j m) y)
 
--- a turn of the loop that copies, and all of the output, copied
+-- a turn of a loop that copies
 copy-suc : (i : ℕ) (f d : List ℕ) → i < length f → i < length d → set (take i f ++ drop i d) i (get_or f i 0) ≡ take (suc i) f ++ drop (suc i) d
 copy-suc i [] d h k = absurd (omega arith)
 copy-suc i (x ∷ f) [] h k = absurd (omega arith)
@@ -52,10 +52,6 @@ copy-suc (suc i) (x ∷ f) (y ∷ d) h k = ap (λ (l : List ℕ). x ∷ l) (copy
 
 pub copy_more : (i : ℕ) (f d : List ℕ) → i < length f → i < length d → set (take i f ++ drop i d) i (get_or f i 0) ≡ take (i + 1) f ++ drop (i + 1) d
 copy_more i f d h k = rw (add-one i) (copy-suc i f d h k)
-
-pub copy-all : (i : ℕ) (f d : List ℕ) → i ≡ length f → take i f ++ drop i d ≡ into f d
-unfolding into
-copy-all i f d e = rw (e, take-length f)
 
 -- one more byte of the output, and more output behind the first
 pub put_next : (xs m : List ℕ) (e a : ℕ) → e ≡ length xs → e < length m → set (into xs m) e a ≡ into (xs ++ (a ∷ [])) m

@@ -13,7 +13,7 @@ use Rattle.counts.proofs.Counts.{differing-le, differing-append, differing-on, d
 use Rattle.counts.proofs.Retallied.{retally-by}
 use Rattle.memory.specs.declared.parts.Change.{Change}
 use Rattle.memory.specs.Memory.{erased, filled}
-use Rattle.memory.specs.Replaced.{noted, Replaced}
+use Rattle.memory.specs.Replaced.{noted, plus, Replaced}
 
 -- all of a part, replaced
 pub into-whole : (f m : List ℕ) → length m ≡ length f → into f m ≡ f
@@ -55,9 +55,6 @@ pub record Below (i : ℕ) (old new cur : List ℕ) (c : Change) : Type 0 where
   pub balance : c.after + used old + used (drop i new) ≡ c.before + used new + used (drop i old)
   pub most-before : c.before ≤ i
   pub most-after : c.after ≤ i
-
-abbrev pub plus : Change → Change → Change
-plus c d = record { changed = c.changed + d.changed; before = c.before + d.before; after = c.after + d.after }
 
 pub below_on : {i e : ℕ} {old new cur ys : List ℕ} {c d : Change} → i ≤ e → e ≤ length new → length old ≡ length new
     → Below i old new cur c → ys ≡ take (e - i) (drop i new) → Replaced (take (e - i) (drop i cur)) (take (e - i) (drop i new)) d

@@ -8,6 +8,10 @@ use Rattle.memory.specs.declared.parts.Change.{Change}
 abbrev pub noted : List ℕ → List ℕ → ℕ → ℕ × List ℕ × ℕ
 noted old new tally = (differing old new, new, retally (used old) (used new) tally)
 
+-- the change of two parts
+abbrev pub plus : Change → Change → Change
+plus c d = record { changed = c.changed + d.changed; before = c.before + d.before; after = c.after + d.after }
+
 -- `before` and `after` leave out bytes that stay: only their difference is that of the bytes in use
 pub record Replaced (old new : List ℕ) (c : Change) : Type 0 where
   pub count : c.changed ≡ differing old new

@@ -1,6 +1,6 @@
 // The stores, each to its own part of the memory. Each answers how many places it changed, and changes the tallies of
 // the stretches that it stores to.
-ghost use Rattle.std.specs.Prelude.{◌≡◌, [], ◌+◌, ◌*◌, ◌≤◌, ◌<◌, min, length};
+ghost use Rattle.std.specs.Prelude.{◌≡◌, [], ◌+◌, ◌*◌, ◌≤◌, ◌<◌, length};
 ghost use Rattle.lists.specs.Lists.{digits};
 ghost use Rattle.memory.specs.declared.Store.TheVariants.{Byte, Block, Sector, File};
 ghost use Rattle.memory.specs.Memory.{stored, with_count, Tallied, Fits};
@@ -8,6 +8,7 @@ ghost use Rattle.memory.specs.Memory.{stored, with_count, Tallied, Fits};
 use crate::parts::{fill_part, replace_short};
 
 // The eight bytes of a block, highest first.
+// Kept: the specification names shifts as the form that takes the data bytes out.
 fn word_bytes(word: u64) -> [u8; 8]
     ensures { result ≡ digits 256 8 word }
 {
@@ -77,12 +78,6 @@ pub fn erase_sector(memory: &mut [u8], place: usize, tallies: &mut [u16]) -> u32
     n.changed
 }
 
-fn least(a: usize, b: usize) -> usize
-    ensures { result ≡ min a b }
-{
-    if a < b { a } else { b }
-}
-
 // FFh everywhere, then the file's first bytes: stretch by stretch, each byte written at most once.
 pub fn load(memory: &mut [u8], file: &[u8], tallies: &mut [u16]) -> u32
     requires tallied { Tallied (length memory.old) tallies.old }
@@ -93,16 +88,14 @@ pub fn load(memory: &mut [u8], file: &[u8], tallies: &mut [u16]) -> u32
         tallies.old }
 {
     let mut changed: u32 = 0;
-    let mut k = 0;
-    while k < tallies.len() {
+    for (k, tally) in tallies.iter_mut().enumerate() {
         let start = k * 4096;
         let end = start + 4096;
-        let from = least(start, file.len());
-        let to = least(end, file.len());
-        let n = fill_part(&mut memory[start..end], &file[from..to], tallies[k]);
-        tallies[k] = n.tally;
+        let from = start.min(file.len());
+        let to = end.min(file.len());
+        let n = fill_part(&mut memory[start..end], &file[from..to], *tally);
+        *tally = n.tally;
         changed += n.changed;
-        k += 1;
     }
     changed
 }

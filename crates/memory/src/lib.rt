@@ -87,22 +87,12 @@ pub fn blank(memory: &mut [u8], tallies: &mut [u16])
 pub fn stores(store: Store) -> bool
     ensures { result ≡ stores store }
 {
-    match store {
-        Store::Nothing => false,
-        Store::Byte(_, _) => true,
-        Store::Block(_, _) => true,
-        Store::Sector(_) => true,
-        Store::Chip => true,
-        Store::File => false,
-    }
+    !matches!(store, Store::Nothing | Store::File)
 }
 
 // The changed flag after a step; no step clears it.
 pub fn flag_after(sets: bool, dirty: bool) -> bool
     ensures { result ≡ (sets || dirty) }
 {
-    if sets {
-        return true;
-    }
-    dirty
+    sets || dirty
 }

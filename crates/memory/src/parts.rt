@@ -1,17 +1,37 @@
 // A part of one stretch replaced by new bytes, counted before it is stored.
-ghost use Rattle.std.specs.Prelude.{◌≡◌, ◌≤◌, length};
+ghost use Rattle.std.specs.Prelude.{◌≡◌, ◌+◌, ◌^◌, ◌<◌, ◌≤◌, length};
 ghost use Rattle.counts.specs.Counts.{used};
 ghost use Rattle.memory.specs.Memory.{erased, filled};
-ghost use Rattle.memory.specs.Replaced.{noted, Replaced};
+ghost use Rattle.memory.specs.Replaced.{noted, plus, Replaced};
 
 use crate::files::copy_file;
+use std::ops::Add;
 
 // How many places changed, and the bytes in use before and after. (Of bytes that stay they are both 0.)
-#[derive(Clone, Copy)]
+#[derive(Clone, Copy, Default)]
 pub struct Change {
     pub changed: u32,
     pub before: u32,
     pub after: u32,
+}
+
+// The change of two parts.
+impl Add for Change {
+    type Output = Change;
+
+    ghost can_add = { λ c d. (c.changed + d.changed < 2 ^ 32)
+        × (c.before + d.before < 2 ^ 32)
+        × (c.after + d.after < 2 ^ 32) };
+
+    ghost add_gives = { λ c d r. r ≡ plus c d };
+
+    fn add(self, other: Change) -> Change {
+        Change {
+            changed: self.changed + other.changed,
+            before: self.before + other.before,
+            after: self.after + other.after,
+        }
+    }
 }
 
 // How many places changed, and the tally of their stretch.
@@ -29,19 +49,15 @@ pub fn replace_short(part: &mut [u8], bytes: &[u8]) -> Change
 {
     let changed = counts::differing_short(part, bytes);
     if changed == 0 {
-        return Change {
-            changed: 0,
-            before: 0,
-            after: 0,
-        };
+        return Change::default();
     }
     let before = counts::used_short(part);
     let after = counts::used_short(bytes);
     copy_file(part, bytes);
     Change {
-        changed: changed as u32,
-        before: before as u32,
-        after: after as u32,
+        changed: u32::from(changed),
+        before: u32::from(before),
+        after: u32::from(after),
     }
 }
 
@@ -51,25 +67,15 @@ pub fn replace(part: &mut [u8], bytes: &[u8]) -> Change
     ensures part_after { part.new ≡ bytes.now }
     ensures replaced { Replaced part.old bytes.now result }
 {
-    let n = part.len();
-    let mut changed: u32 = 0;
-    let mut before: u32 = 0;
-    let mut after: u32 = 0;
-    let mut i = 0;
-    while n - i >= 128 {
-        let e = i + 128;
-        let c = replace_short(&mut part[i..e], &bytes[i..e]);
-        changed += c.changed;
-        before += c.before;
-        after += c.after;
-        i = e;
+    let whole = part.len() / 128;
+    let mut total = Change::default();
+    for k in 0..whole {
+        let start = 128 * k;
+        let end = start + 128;
+        total = total + replace_short(&mut part[start..end], &bytes[start..end]);
     }
-    let c = replace_short(&mut part[i..], &bytes[i..]);
-    Change {
-        changed: changed + c.changed,
-        before: before + c.before,
-        after: after + c.after,
-    }
+    let start = 128 * whole;
+    total + replace_short(&mut part[start..], &bytes[start..])
 }
 
 // FFh everywhere. Answers how many places changed: those that were in use.

@@ -1,75 +1,39 @@
 -- `memory::parts::replace` meets its contract, short part by short part. Assumes nothing.
-use mathlib.Core.Path.{◌≡◌, refl}
+use mathlib.Core.Path.{◌≡◌}
+use Prim.Native.Nat.{◌+◌, ◌*◌, ◌/◌}
 use native.Mathlib.Omega.{arith}
 use lib.ListN.{length, length-take, length-drop}
 use Rattle.memory.proofs.Replaced.{below_on, plus-le, below_all}
 use borrow.Author.Rules.{rules}
 use Rattle.memory.proofs.parts.replace.Goals as goal
 
-pub loop-i-init : goal.loop-i-init
-loop-i-init c =
-    (omega arith, refl, record { front = refl; count = omega arith; balance = omega arith; most-before = omega arith; most-after = omega arith })
-
-pub replace_short-c-requires : goal.replace_short-c-requires
-replace_short-c-requires c = simp (length-take, length-drop) (omega arith, omega arith)
-
-pub overflow_add-changed : goal.overflow_add-changed
-overflow_add-changed c =
+pub add-total-requires : goal.add-total-requires
+add-total-requires c =
     let s = c in
-    let b = c.loop-i in
-    let r = c.replace_short-c.ensures in
-    omega (arith, s.requires, (plus-le b.invariant.2 r.replaced (simp (length-take, length-drop) (omega arith))).0)
+    let p = plus-le c.loop-k.invariant.1 c.replace_short.ensures.replaced (simp (length-take, length-drop) (omega arith)) in
+    (omega (arith, s.requires, p.0), omega (arith, s.requires, p.1), omega (arith, s.requires, p.2))
 
-pub overflow_add-before : goal.overflow_add-before
-overflow_add-before c =
+pub loop-k-preserved : goal.loop-k-preserved
+loop-k-preserved c =
     let s = c in
-    let b = c.loop-i in
-    let r = c.replace_short-c.ensures in
-    omega (arith, s.requires, (plus-le b.invariant.2 r.replaced (simp (length-take, length-drop) (omega arith))).1)
+    let b = c.loop-k in
+    let r = c.replace_short.ensures in
+    let e : 128 * (b.k + 1) ≡ 128 * b.k + 128 = omega arith in
+    (search rules, rw (e, c.add-total.ensures) (below_on (omega arith) (omega arith) s.requires.1 b.invariant.1 r.part_after r.replaced))
 
-pub overflow_add-after : goal.overflow_add-after
-overflow_add-after c =
+pub add-requires : goal.add-requires
+add-requires c =
     let s = c in
-    let b = c.loop-i in
-    let r = c.replace_short-c.ensures in
-    omega (arith, s.requires, (plus-le b.invariant.2 r.replaced (simp (length-take, length-drop) (omega arith))).2)
-
-pub loop-i-preserved : goal.loop-i-preserved
-loop-i-preserved c =
-    let s = c in
-    let b = c.loop-i in
-    let r = c.replace_short-c.ensures in
-    (omega arith, search rules, below_on (omega arith) (omega arith) s.requires.1 b.invariant.2 r.part_after r.replaced)
-
-pub replace_short-c-requires-2 : goal.replace_short-c-requires-2
-replace_short-c-requires-2 c = simp (length-take, length-drop) (omega arith, omega arith)
-
-pub overflow_add-result : goal.overflow_add-result
-overflow_add-result c =
-    let s = c in
-    let b = c.loop-i in
-    let r = c.replace_short-c-2.ensures in
-    omega (arith, s.requires, (plus-le b.invariant.2 r.replaced (simp (length-take, length-drop) (omega arith))).0)
-
-pub overflow_add-result-2 : goal.overflow_add-result-2
-overflow_add-result-2 c =
-    let s = c in
-    let b = c.loop-i in
-    let r = c.replace_short-c-2.ensures in
-    omega (arith, s.requires, (plus-le b.invariant.2 r.replaced (simp (length-take, length-drop) (omega arith))).1)
-
-pub overflow_add-result-3 : goal.overflow_add-result-3
-overflow_add-result-3 c =
-    let s = c in
-    let b = c.loop-i in
-    let r = c.replace_short-c-2.ensures in
-    omega (arith, s.requires, (plus-le b.invariant.2 r.replaced (simp (length-take, length-drop) (omega arith))).2)
+    let p = plus-le c.loop-k.invariant.1 c.replace_short-2.ensures.replaced (simp (length-take, length-drop) (omega arith)) in
+    (omega (arith, s.requires, p.0), omega (arith, s.requires, p.1), omega (arith, s.requires, p.2))
 
 pub returns : goal.returns
 returns c =
     let s = c in
-    let b = c.loop-i in
+    let b = c.loop-k in
     let e : length s.args.bytes.now ≡ length b.part = omega arith in
-    let r = rw e at c.replace_short-c-2.ensures in
-    let z = below_all b.invariant.1 s.requires.1 (below_on (omega arith) (omega arith) s.requires.1 b.invariant.2 r.part_after r.replaced) in
-    record { part_after = z.0; replaced = z.1 }
+    let r = rw e at c.replace_short-2.ensures in
+    let k : b.k ≡ length s.args.part.now / 128 = omega arith in
+    let v = rw k at b.invariant.1 in
+    let z = below_all b.invariant.0 s.requires.1 (below_on (omega arith) (omega arith) s.requires.1 v r.part_after r.replaced) in
+    record { part_after = z.0; replaced = rw c.add.ensures z.1 }
