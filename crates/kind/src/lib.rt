@@ -11,7 +11,7 @@ ghost use Rattle.kind.specs.Kind.{kind_number, kind_of, memory_size, tally_count
 pub use header::{flash_code, ruby_title, sram_code};
 pub use markers::{detect_save_type, eeprom_kind};
 
-#[derive(Clone, Copy)]
+#[derive(Clone, Copy, PartialEq, Eq, Debug)]
 pub enum SaveType {
     None,
     Sram,
@@ -24,17 +24,11 @@ pub enum SaveType {
 pub fn kind_number(kind: SaveType) -> usize
     ensures { result ≡ kind_number kind }
 {
-    match kind {
-        SaveType::None => 0,
-        SaveType::Sram => 1,
-        SaveType::Flash64 => 2,
-        SaveType::Flash128 => 3,
-        SaveType::Eeprom512 => 4,
-        SaveType::Eeprom8k => 5,
-    }
+    kind as usize
 }
 
 // A kind by its number; no number above 5 is one.
+#[tactic(auto, unfolding(crate::specs::Kind::kind_of))]
 pub fn kind_of(n: u8) -> SaveType
     ensures { result ≡ kind_of n }
 {
@@ -56,8 +50,7 @@ pub fn memory_size(kind: SaveType) -> usize
         SaveType::Sram => 32768,
         SaveType::Flash64 => 65536,
         SaveType::Flash128 => 131072,
-        SaveType::Eeprom512 => 8192,
-        SaveType::Eeprom8k => 8192,
+        SaveType::Eeprom512 | SaveType::Eeprom8k => 8192,
     }
 }
 
@@ -71,14 +64,7 @@ pub fn tally_count(kind: SaveType) -> usize
 pub fn uses_eeprom(kind: SaveType) -> bool
     ensures { result ≡ uses_eeprom kind }
 {
-    match kind {
-        SaveType::None => false,
-        SaveType::Sram => false,
-        SaveType::Flash64 => false,
-        SaveType::Flash128 => false,
-        SaveType::Eeprom512 => true,
-        SaveType::Eeprom8k => true,
-    }
+    matches!(kind, SaveType::Eeprom512 | SaveType::Eeprom8k)
 }
 
 // Where the EEPROM is on the bus, by the image's length.
