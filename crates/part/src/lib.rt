@@ -9,7 +9,7 @@ ghost use Rattle.part.specs.Part.{number_fits, part_fits};
 use kind::SaveType;
 
 // The chip that a maker put in, or the usual one of the kind.
-#[derive(Clone, Copy)]
+#[derive(Clone, Copy, PartialEq, Eq, Debug)]
 pub enum Part {
     Usual,
     Sst64,
@@ -31,17 +31,11 @@ const USUAL_ID_WORDS: [u16; 6] = [0, 0, 0x1B32, 0x1362, 0, 0];
 pub fn part_number(part: Part) -> usize
     ensures { result ≡ part_number part }
 {
-    match part {
-        Part::Usual => 0,
-        Part::Sst64 => 1,
-        Part::Macronix64 => 2,
-        Part::Panasonic64 => 3,
-        Part::Sanyo128 => 4,
-        Part::Macronix128 => 5,
-    }
+    part as usize
 }
 
 // A part by its number; no number above 5 is one.
+#[tactic(auto, unfolding(crate::specs::Part::part_of))]
 pub fn part_of(n: u32) -> Part
     ensures { result ≡ part_of n }
 {
@@ -58,48 +52,45 @@ pub fn part_of(n: u32) -> Part
 fn size(part: Part) -> usize
     ensures { result ≡ part_size part }
 {
-    SIZES[part_number(part)]
+    SIZES[part as usize]
 }
 
 // A named part has the kind's size; the usual one fits every kind.
+#[tactic(auto, unfolding(crate::specs::Part::part_fits))]
 pub fn part_fits(part: Part, kind: SaveType) -> bool
     ensures { result ≡ part_fits part kind }
 {
-    if part_number(part) == 0 {
-        return true;
-    }
-    size(part) == kind::memory_size(kind)
+    part == Part::Usual || size(part) == kind::memory_size(kind)
 }
 
 // Of a part's number; one that names no part fits no kind.
-#[tactic(auto, using(lists::proofs::Bools::tests), unfolding(crate::specs::Part::number_fits))]
+#[tactic(auto, using(lists::proofs::Bools::tests))]
 pub fn number_fits(n: u32, kind: SaveType) -> bool
     ensures { result ≡ number_fits n kind }
 {
-    if 5 < n {
-        return false;
-    }
-    part_fits(part_of(n), kind)
+    n <= 5 && part_fits(part_of(n), kind)
 }
 
 fn named_word(part: Part) -> u16
     ensures { result ≡ part_word part }
 {
-    ID_WORDS[part_number(part)]
+    ID_WORDS[part as usize]
 }
 
 fn usual_word(kind: SaveType) -> u16
     ensures { result ≡ usual_word kind }
 {
-    USUAL_ID_WORDS[kind::kind_number(kind)]
+    USUAL_ID_WORDS[kind as usize]
 }
 
 // What ID mode shows.
+#[tactic(auto, unfolding(crate::specs::Part::id_word))]
 pub fn id_word(part: Part, kind: SaveType) -> u16
     ensures { result ≡ id_word part kind }
 {
-    if part_number(part) == 0 {
-        return usual_word(kind);
+    if part == Part::Usual {
+        usual_word(kind)
+    } else {
+        named_word(part)
     }
-    named_word(part)
 }
