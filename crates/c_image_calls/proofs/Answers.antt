@@ -14,13 +14,13 @@ use Rattle.kind.specs.declared.SaveType.{SaveType}
 use Rattle.kind.specs.declared.SaveType.TheVariants.{None, Sram, Flash64, Flash128, Eeprom512, Eeprom8k}
 use Rattle.kind.specs.Kind.{kind_number, detect_save_type}
 use Rattle.kind.proofs.Sizes.{memory-small}
-use Rattle.file_sizes.specs.declared.SaveFit.{SaveFit}
+use Rattle.std.specs.Prelude.{Option}
 use Rattle.file_sizes.specs.SaveFit.{chip_size, eeprom_fit, save_fit, save_size, save_fit_of, save_size_of}
 
 pub titled : (a : Answer) (place : ℕ) {d : List ℕ} {t : Answer × List ℕ} {x p : ℕ} → (x, p) ≡ told a.refusal a.value place → (a, d) ≡ t → (x, d, p) ≡ title_at t place
 titled a place {d} u e = ap (λ (l : ℕ × ℕ). (l.0, d, l.1)) u ∙ ap (λ (t : Answer × List ℕ). title_at t place) e
 
-abbrev Small : SaveFit → Type 0
+abbrev Small : Option ℕ → Type 0
 Small fit = kept_length fit ≤ 131072
 
 fit-le : (k : SaveType) (n : ℕ) → Small (save_fit k n)

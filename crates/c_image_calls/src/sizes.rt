@@ -1,23 +1,12 @@
 // The sizes of files and memories.
-ghost use Rattle.out_params.specs.Places.{answered_at, fit_answer, kept_length, memory_size_answer, size_answer};
+ghost use Rattle.out_params.specs.Places.{answered_at, fit_answer, memory_size_answer, size_answer};
 ghost use Rattle.std.specs.Prelude.{◌≡◌};
-
-use file_sizes::SaveFit;
-
-fn kept_length(fit: SaveFit) -> usize
-    ensures { result ≡ kept_length fit }
-{
-    match fit {
-        SaveFit::Keeps(n) => n,
-        SaveFit::Refused => 0,
-    }
-}
 
 pub fn save_fit(image: &[u8], length: usize, kept: &mut u32) -> u32
     ensures { (result, kept.new)
         ≡ answered_at (fit_answer image.now length) kept.old }
 {
-    *kept = kept_length(file_sizes::save_fit_of(image, length)) as u32;
+    *kept = file_sizes::save_fit_of(image, length).unwrap_or(0) as u32;
     0
 }
 
