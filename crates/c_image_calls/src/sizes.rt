@@ -2,6 +2,7 @@
 ghost use Rattle.out_params.specs.Places.{answered_at, fit_answer, memory_size_answer, size_answer};
 ghost use Rattle.std.specs.Prelude.{◌≡◌};
 
+#[tactic(auto, using(crate::proofs::Answers::fit_of_le), unfolding(out_params::specs::Places::fit_answer))]
 pub fn save_fit(image: &[u8], length: usize, kept: &mut u32) -> u32
     ensures { (result, kept.new)
         ≡ answered_at (fit_answer image.now length) kept.old }
@@ -10,6 +11,7 @@ pub fn save_fit(image: &[u8], length: usize, kept: &mut u32) -> u32
     0
 }
 
+#[tactic(auto, using(crate::proofs::Answers::size_of_le), unfolding(out_params::specs::Places::size_answer))]
 pub fn save_size(image: &[u8], size: &mut u32) -> u32
     ensures { (result, size.new) ≡ answered_at (size_answer image.now) size.old }
 {
@@ -17,6 +19,7 @@ pub fn save_size(image: &[u8], size: &mut u32) -> u32
     0
 }
 
+#[tactic(auto, using(lists::proofs::Bools::tests), unfolding(out_params::specs::Places::memory_size_answer))]
 pub fn memory_size(kind: u32, size: &mut u32) -> u32
     ensures { (result, size.new) ≡ answered_at (memory_size_answer kind) size.old }
 {
