@@ -48,13 +48,8 @@ pub fn feed(m: Matcher, part: &[u8]) -> Fed
 {
     let mut now = m;
     let mut n = 0;
-    while n < part.len() {
-        if now.sram {
-            return Fed {
-                matcher: now,
-                count: n,
-            };
-        }
+    // Kept: a turn hands over as many bytes as `advance` says, and no iterator steps by that.
+    while n < part.len() && !now.sram {
         let some = advance(now, &part[n..]);
         now = some.matcher;
         n += some.count;

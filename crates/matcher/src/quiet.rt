@@ -29,6 +29,7 @@ pub fn quiet_run(before: u8, part: &[u8]) -> usize
     }
     let last = part.len() - 33;
     let mut n = 0;
+    // Kept: the place reached is the answer, and a `for` by steps of 32 does not have it at its end.
     while n <= last {
         let end = n + 33;
         if pair_in(&part[n..end]) {
