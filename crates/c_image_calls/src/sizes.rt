@@ -2,6 +2,8 @@
 ghost use Rattle.out_params.specs.Places.{answered_at, fit_answer, memory_size_answer, size_answer};
 ghost use Rattle.std.specs.Prelude.{◌≡◌};
 
+use kind::SaveType;
+
 #[tactic(auto, using(crate::proofs::Answers::fit_of_le), unfolding(out_params::specs::Places::fit_answer))]
 pub fn save_fit(image: &[u8], length: usize, kept: &mut u32) -> u32
     ensures { (result, kept.new)
@@ -19,13 +21,13 @@ pub fn save_size(image: &[u8], size: &mut u32) -> u32
     0
 }
 
-#[tactic(auto, using(lists::proofs::Bools::tests), unfolding(out_params::specs::Places::memory_size_answer))]
+#[tactic(auto, using(lists::proofs::Bools::tests), unfolding(out_params::specs::Places::memory_size_answer, kind::specs::Kind::kind_of))]
 pub fn memory_size(kind: u32, size: &mut u32) -> u32
     ensures { (result, size.new) ≡ answered_at (memory_size_answer kind) size.old }
 {
-    if 5 < kind {
+    let Ok(kind) = SaveType::try_from(kind) else {
         return 2;
-    }
-    *size = kind::memory_size(kind::kind_of(kind as u8)) as u32;
+    };
+    *size = kind::memory_size(kind) as u32;
     0
 }

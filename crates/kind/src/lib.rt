@@ -6,7 +6,7 @@ mod header;
 mod markers;
 
 ghost use Rattle.std.specs.Prelude.{◌≡◌};
-ghost use Rattle.kind.specs.Kind.{kind_number, kind_of, memory_size, tally_count, uses_eeprom, window_start};
+ghost use Rattle.kind.specs.Kind.{Numbered, kind_number, kind_of, memory_size, tally_count, uses_eeprom, window_start};
 
 pub use header::{flash_code, ruby_title, sram_code};
 pub use markers::{detect_save_type, eeprom_kind};
@@ -27,19 +27,34 @@ pub fn kind_number(kind: SaveType) -> usize
     kind as usize
 }
 
-// A kind by its number; no number above 5 is one.
+// A number that is no kind's.
+#[derive(Clone, Copy, PartialEq, Eq, Debug)]
+pub struct UnknownKind;
+
+impl TryFrom<u32> for SaveType {
+    type Error = UnknownKind;
+
+    ghost try_from_gives = { Numbered };
+
+    fn try_from(n: u32) -> Result<Self, UnknownKind> {
+        match n {
+            0 => Ok(SaveType::None),
+            1 => Ok(SaveType::Sram),
+            2 => Ok(SaveType::Flash64),
+            3 => Ok(SaveType::Flash128),
+            4 => Ok(SaveType::Eeprom512),
+            5 => Ok(SaveType::Eeprom8k),
+            _ => Err(UnknownKind),
+        }
+    }
+}
+
+// A kind by its number; any number above 5 gives Eeprom8k.
 #[tactic(auto, unfolding(crate::specs::Kind::kind_of))]
 pub fn kind_of(n: u8) -> SaveType
     ensures { result ≡ kind_of n }
 {
-    match n {
-        0 => SaveType::None,
-        1 => SaveType::Sram,
-        2 => SaveType::Flash64,
-        3 => SaveType::Flash128,
-        4 => SaveType::Eeprom512,
-        _ => SaveType::Eeprom8k,
-    }
+    SaveType::try_from(n as u32).unwrap_or(SaveType::Eeprom8k)
 }
 
 pub fn memory_size(kind: SaveType) -> usize

@@ -3,7 +3,7 @@
 #![tactic(auto)]
 
 ghost use Rattle.std.specs.Prelude.{◌≡◌};
-ghost use Rattle.part.specs.Part.{part_number, part_of, part_size, part_word, usual_word, id_word};
+ghost use Rattle.part.specs.Part.{Numbered, part_number, part_of, part_size, part_word, usual_word, id_word};
 ghost use Rattle.part.specs.Part.{number_fits, part_fits};
 
 use kind::SaveType;
@@ -34,19 +34,34 @@ pub fn part_number(part: Part) -> usize
     part as usize
 }
 
-// A part by its number; no number above 5 is one.
+// A number that is no part's.
+#[derive(Clone, Copy, PartialEq, Eq, Debug)]
+pub struct UnknownPart;
+
+impl TryFrom<u32> for Part {
+    type Error = UnknownPart;
+
+    ghost try_from_gives = { Numbered };
+
+    fn try_from(n: u32) -> Result<Self, UnknownPart> {
+        match n {
+            0 => Ok(Part::Usual),
+            1 => Ok(Part::Sst64),
+            2 => Ok(Part::Macronix64),
+            3 => Ok(Part::Panasonic64),
+            4 => Ok(Part::Sanyo128),
+            5 => Ok(Part::Macronix128),
+            _ => Err(UnknownPart),
+        }
+    }
+}
+
+// A part by its number; any number above 5 gives Macronix128.
 #[tactic(auto, unfolding(crate::specs::Part::part_of))]
 pub fn part_of(n: u32) -> Part
     ensures { result ≡ part_of n }
 {
-    match n {
-        0 => Part::Usual,
-        1 => Part::Sst64,
-        2 => Part::Macronix64,
-        3 => Part::Panasonic64,
-        4 => Part::Sanyo128,
-        _ => Part::Macronix128,
-    }
+    Part::try_from(n).unwrap_or(Part::Macronix128)
 }
 
 fn size(part: Part) -> usize
@@ -64,11 +79,11 @@ pub fn part_fits(part: Part, kind: SaveType) -> bool
 }
 
 // Of a part's number; one that names no part fits no kind.
-#[tactic(auto, using(lists::proofs::Bools::tests))]
+#[tactic(auto, using(lists::proofs::Bools::tests), unfolding(crate::specs::Part::part_of))]
 pub fn number_fits(n: u32, kind: SaveType) -> bool
     ensures { result ≡ number_fits n kind }
 {
-    n <= 5 && part_fits(part_of(n), kind)
+    Part::try_from(n).is_ok_and(|part| part_fits(part, kind))
 }
 
 fn named_word(part: Part) -> u16
