@@ -19,11 +19,15 @@ pub enum Part {
     Macronix128,
 }
 
-// How many bytes the named parts have, and their ID words, by part number: maker in the low byte, device in the high
-// byte.
-const SIZES: [usize; 6] = [0, 65536, 65536, 65536, 131072, 131072];
-
-const ID_WORDS: [u16; 6] = [0, 0xD4BF, 0x1CC2, 0x1B32, 0x1362, 0x09C2];
+// By part number: how many bytes a named part has, and its ID word, maker in the low byte, device in the high byte.
+const NAMED_PARTS: [(usize, u16); 6] = [
+    (0, 0),
+    (65536, 0xD4BF),
+    (65536, 0x1CC2),
+    (65536, 0x1B32),
+    (131072, 0x1362),
+    (131072, 0x09C2),
+];
 
 // ID words of the usual part, by kind number.
 const USUAL_ID_WORDS: [u16; 6] = [0, 0, 0x1B32, 0x1362, 0, 0];
@@ -64,10 +68,11 @@ pub fn part_of(n: u32) -> Part
     Part::try_from(n).unwrap_or(Part::Macronix128)
 }
 
-fn size(part: Part) -> usize
+fn named_size(part: Part) -> usize
     ensures { result ≡ part_size part }
 {
-    SIZES[part as usize]
+    let (size, _) = NAMED_PARTS[part as usize];
+    size
 }
 
 // A named part has the kind's size; the usual one fits every kind.
@@ -75,7 +80,7 @@ fn size(part: Part) -> usize
 pub fn part_fits(part: Part, kind: SaveType) -> bool
     ensures { result ≡ part_fits part kind }
 {
-    part == Part::Usual || size(part) == kind::memory_size(kind)
+    part == Part::Usual || named_size(part) == kind::memory_size(kind)
 }
 
 // Of a part's number; one that names no part fits no kind.
@@ -89,7 +94,8 @@ pub fn number_fits(n: u32, kind: SaveType) -> bool
 fn named_word(part: Part) -> u16
     ensures { result ≡ part_word part }
 {
-    ID_WORDS[part as usize]
+    let (_, word) = NAMED_PARTS[part as usize];
+    word
 }
 
 fn usual_word(kind: SaveType) -> u16
