@@ -1,26 +1,19 @@
 // The sizes of files and memories.
-ghost use Rattle.out_params.specs.Places.{answered_at, fit_answer, kept_length, memory_size_answer, size_answer};
+ghost use Rattle.out_params.specs.Places.{answered_at, fit_answer, memory_size_answer, size_answer};
 ghost use Rattle.std.specs.Prelude.{◌≡◌};
 
-use file_sizes::SaveFit;
+use kind::SaveType;
 
-fn kept_length(fit: SaveFit) -> usize
-    ensures { result ≡ kept_length fit }
-{
-    match fit {
-        SaveFit::Keeps(n) => n,
-        SaveFit::Refused => 0,
-    }
-}
-
+#[tactic(auto, using(crate::proofs::Answers::fit_of_le), unfolding(out_params::specs::Places::fit_answer))]
 pub fn save_fit(image: &[u8], length: usize, kept: &mut u32) -> u32
     ensures { (result, kept.new)
         ≡ answered_at (fit_answer image.now length) kept.old }
 {
-    *kept = kept_length(file_sizes::save_fit_of(image, length)) as u32;
+    *kept = file_sizes::save_fit_of(image, length).unwrap_or(0) as u32;
     0
 }
 
+#[tactic(auto, using(crate::proofs::Answers::size_of_le), unfolding(out_params::specs::Places::size_answer))]
 pub fn save_size(image: &[u8], size: &mut u32) -> u32
     ensures { (result, size.new) ≡ answered_at (size_answer image.now) size.old }
 {
@@ -28,12 +21,13 @@ pub fn save_size(image: &[u8], size: &mut u32) -> u32
     0
 }
 
+#[tactic(auto, using(lists::proofs::Bools::tests), unfolding(out_params::specs::Places::memory_size_answer, kind::specs::Kind::kind_of))]
 pub fn memory_size(kind: u32, size: &mut u32) -> u32
     ensures { (result, size.new) ≡ answered_at (memory_size_answer kind) size.old }
 {
-    if 5 < kind {
+    let Ok(kind) = SaveType::try_from(kind) else {
         return 2;
-    }
-    *size = kind::memory_size(kind::kind_of(kind as u8)) as u32;
+    };
+    *size = kind::memory_size(kind) as u32;
     0
 }

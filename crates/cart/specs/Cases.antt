@@ -1,9 +1,8 @@
 -- Document 01, "Cases": the twelve that are marked.
-use Rattle.std.specs.Prelude.{◌≡◌, Bool, true, false, List, [], ◌∷◌, ◌++◌, ℕ, replicate}
+use Rattle.std.specs.Prelude.{◌≡◌, Bool, true, false, Some, None, List, [], ◌∷◌, ◌++◌, ℕ, replicate}
 use Rattle.lists.specs.Lists.{ascii}
 use Rattle.image.specs.Image.{header_checksum}
 use Rattle.kind.specs.declared.SaveType.TheVariants.{Sram}
-use Rattle.file_sizes.specs.declared.SaveFit.TheVariants.{Keeps, Refused}
 use Rattle.file_sizes.specs.SaveFit.{save_fit}
 use Rattle.flash.specs.Gbatek.{At, half_erase}
 use Rattle.cart.specs.Record.{State, from_bytes}
@@ -32,7 +31,7 @@ abbrev pub large_behind : ℕ → Bool
 large_behind n = (step (load_save (replicate n 0)) [] eeprom).next.cart.chip.eeprom.large
 
 pub record Cases : Type 0 where
-  pub a : (save_fit Sram 32784 ≡ Keeps 32768) × (save_fit Sram 65552 ≡ Keeps 32768) × (save_fit Sram 32783 ≡ Refused)
+  pub a : (save_fit Sram 32784 ≡ Some 32768) × (save_fit Sram 65552 ≡ Some 32768) × (save_fit Sram 32783 ≡ None)
   pub b : ((header_checksum (replicate 192 0)).value ≡ 0xe7) × ((header_checksum (replicate 192 1)).value ≡ 0xca)
   pub c : (restored (chip 0 0 1 5 0) ≡ 0) × (restored (chip 0 0 1 6 0) ≡ 12)
   pub d : (restored (chip 0 1 1 13 0) ≡ 0) × (restored (chip 0 1 1 14 0) ≡ 12)

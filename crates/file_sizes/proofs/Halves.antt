@@ -1,7 +1,7 @@
 -- The two halves of a doubled SRAM file. Assumes nothing.
 use mathlib.Core.Path.{◌≡◌, refl, sym, ap, ◌∙◌}
-use mathlib.Core.Logic.{◌≢◌, ◌⊎◌, inl, inr, ⊎_elim}
-use mathlib.Core.Bool.{Bool, true, false, ◌&&◌, true≢false}
+use mathlib.Core.Logic.{◌⊎◌, inl, inr, ⊎_elim}
+use mathlib.Core.Bool.{Bool, true, ◌&&◌, true≢false}
 use mathlib.Core.List.{List}
 use Prim.Native.Nat.{ℕ, ◌≤◌}
 use native.Mathlib.Omega.{arith}
@@ -15,20 +15,11 @@ use Rattle.lists.proofs.Erased.{ff-erased, erased-ff}
 use Rattle.lists.proofs.Fronts.{fronts-same, begins-self}
 use Rattle.kind.specs.declared.SaveType.{SaveType}
 use Rattle.kind.specs.declared.SaveType.TheVariants.{None, Sram, Flash64, Flash128, Eeprom512, Eeprom8k}
-use Rattle.kind.specs.Kind.{kind_number, memory_size}
+use Rattle.kind.specs.Kind.{memory_size}
 use Rattle.file_sizes.specs.SaveFit.{chip_size, save_fit, taken, kept_part}
 use Rattle.file_sizes.specs.Doubled.{lower_half, upper_half, doubled, equal, blank_or_copy, drop_accepted}
 use Rattle.file_sizes.specs.Claims.{UpperHalves}
 use Rattle.file_sizes.proofs.Fits.{chip-least}
-
--- only an SRAM's file is doubled
-pub other-kind : (kind : SaveType) (file : ℕ) → kind_number kind ≢ 1 → false ≡ doubled kind file
-other-kind None file n = refl
-other-kind Sram file n = absurd (n refl)
-other-kind Flash64 file n = refl
-other-kind Flash128 file n = refl
-other-kind Eeprom512 file n = refl
-other-kind Eeprom8k file n = refl
 
 -- of the lengths that are taken, those from 65,536 on
 short-most : (file : ℕ) → chip_size 32768 file ≡ true → file ≤ 32784
@@ -37,30 +28,21 @@ short-most file e =
     cases (eqb file 32768) (λ t. omega (arith, eqb-true file 32768 t))
     (λ t. omega (arith, eqb-true file 32784 (rw t at e)))
 
-sram-longer : (file : ℕ) → taken (save_fit Sram file) ≡ true → leb 65536 file ≡ chip_size 65536 file
+pub sram_longer : (file : ℕ) → taken (save_fit Sram file) ≡ true → leb 65536 file ≡ chip_size 65536 file
 unfolding save_fit
-sram-longer file h =
+sram_longer file h =
     cases (chip_size 65536 file) (λ e. le-leb 65536 file (chip-least 65536 file e) ∙ sym e)
     (λ e. cases (chip_size 32768 file)
     (λ t. lt-leb 65536 file (omega (arith, short-most file t)) ∙ sym e)
     (λ t. absurd (true≢false (sym (rw (t, e) at h)))))
 
-pub longer : (kind : SaveType) (file : ℕ) → kind_number kind ≡ 1 → taken (save_fit kind file) ≡ true
-    → leb 65536 file ≡ doubled kind file
-longer None file n h = absurd (omega arith)
-longer Sram file n h = sram-longer file h
-longer Flash64 file n h = absurd (omega arith)
-longer Flash128 file n h = absurd (omega arith)
-longer Eeprom512 file n h = absurd (omega arith)
-longer Eeprom8k file n h = absurd (omega arith)
-
-pub doubled-least : (kind : SaveType) (file : ℕ) → doubled kind file ≡ true → 65536 ≤ file
-doubled-least None file e = absurd (true≢false (sym e))
-doubled-least Sram file e = chip-least 65536 file e
-doubled-least Flash64 file e = absurd (true≢false (sym e))
-doubled-least Flash128 file e = absurd (true≢false (sym e))
-doubled-least Eeprom512 file e = absurd (true≢false (sym e))
-doubled-least Eeprom8k file e = absurd (true≢false (sym e))
+pub doubled_least : (kind : SaveType) (file : ℕ) → doubled kind file ≡ true → 65536 ≤ file
+doubled_least None file e = absurd (true≢false (sym e))
+doubled_least Sram file e = chip-least 65536 file e
+doubled_least Flash64 file e = absurd (true≢false (sym e))
+doubled_least Flash128 file e = absurd (true≢false (sym e))
+doubled_least Eeprom512 file e = absurd (true≢false (sym e))
+doubled_least Eeprom8k file e = absurd (true≢false (sym e))
 
 -- the two lengths
 pub sram-doubled : (kind : SaveType) (file : ℕ) → kind ≡ Sram → (file ≡ 65536) ⊎ (file ≡ 65552) → doubled kind file ≡ true
@@ -90,8 +72,8 @@ module _ (file : List ℕ) (h : 65536 ≤ length file) where
   unfolding upper_half
   upper-whole = simp (length-take, length-drop) (omega arith)
 
-  pub same-long : equal (lower_half file) (upper_half file) ≡ begins (lower_half file) (upper_half file)
-  same-long =
+  pub same_long : equal (lower_half file) (upper_half file) ≡ begins (lower_half file) (upper_half file)
+  same_long =
       ap (λ (b : Bool). b && begins (lower_half file) (upper_half file))
       (eq-eqb (length (lower_half file)) (length (upper_half file)) (lower-whole ∙ sym upper-whole))
 

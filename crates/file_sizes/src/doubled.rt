@@ -8,37 +8,31 @@ use crate::takes;
 use kind::SaveType;
 
 // Of the lengths that an SRAM takes, the two longer ones are doubled.
+#[tactic(auto, using(crate::proofs::Halves::sram_longer))]
 fn is_doubled(kind: SaveType, file: usize) -> bool
     requires { taken (save_fit kind file) ≡ true }
     ensures { result ≡ doubled kind file }
 {
-    if kind::kind_number(kind) != 1 {
-        return false;
-    }
-    65536 <= file
+    kind == SaveType::Sram && 65536 <= file
 }
 
 // Whether the upper half is all FFh or equal to the lower one. Each loop ends at the first byte that decides.
+#[tactic(auto, using(crate::proofs::Halves::same_long), unfolding(crate::specs::Doubled::blank_or_copy, crate::specs::Doubled::lower_half, crate::specs::Doubled::upper_half))]
 fn blank_or_copy(file: &[u8]) -> bool
     requires { 65536 ≤ length file.now }
     ensures { result ≡ blank_or_copy file.now }
 {
     let lower = &file[..32768];
     let upper = &file[32768..65536];
-    if lists::all_ff(upper) {
-        return true;
-    }
-    lists::begins(upper, lower)
+    lists::all_ff(upper) || lists::begins(upper, lower)
 }
 
+#[tactic(auto, using(crate::proofs::Halves::doubled_least), unfolding(crate::specs::Doubled::drop_accepted))]
 fn drop_accepted(kind: SaveType, file: &[u8]) -> bool
     requires { taken (save_fit kind (length file.now)) ≡ true }
     ensures { result ≡ drop_accepted kind file.now }
 {
-    if !is_doubled(kind, file.len()) {
-        return true;
-    }
-    blank_or_copy(file)
+    !is_doubled(kind, file.len()) || blank_or_copy(file)
 }
 
 // Questions 14 and 19: the number of the first one that is answered no, or 0.

@@ -5,92 +5,72 @@
 mod doubled;
 
 ghost use Rattle.std.specs.Prelude.{◌≡◌};
-ghost use Rattle.kind.specs.Kind.{by_kind};
 ghost use Rattle.file_sizes.specs.SaveFit.{chip_size, save_fit, taken, save_size, save_fit_of, save_size_of, kept_part};
 
 pub use doubled::file_door;
 use kind::SaveType;
 
-// How many bytes of a save file are kept, or that the file cannot be this kind's.
-#[derive(Clone, Copy)]
-pub enum SaveFit {
-    Keeps(usize),
-    Refused,
-}
+// Accepted file sizes by kind number, without a footer: the smaller and the larger.
+const FILE_SIZES: [(usize, usize); 6] = [
+    (0, 0),
+    (32768, 65536),
+    (65536, 65536),
+    (131072, 131072),
+    (512, 8192),
+    (512, 8192),
+];
 
-// Accepted file sizes by kind number, without a footer: the smaller, the larger, and what is kept of the larger.
-const SMALL: [usize; 6] = [0, 32768, 65536, 131072, 512, 512];
-
-const LARGE: [usize; 6] = [0, 65536, 65536, 131072, 8192, 8192];
-
-const KEPT: [usize; 6] = [0, 32768, 65536, 131072, 8192, 8192];
-
-fn small(kind: SaveType) -> usize
-    ensures { result ≡ by_kind kind 0 32768 65536 131072 512 512 }
-{
-    SMALL[kind::kind_number(kind)]
-}
-
-fn large(kind: SaveType) -> usize
-    ensures { result ≡ by_kind kind 0 65536 65536 131072 8192 8192 }
-{
-    LARGE[kind::kind_number(kind)]
-}
-
+#[tactic(auto, unfolding(crate::specs::SaveFit::save_size))]
 pub fn save_size(kind: SaveType) -> usize
     ensures { result ≡ save_size kind }
 {
-    KEPT[kind::kind_number(kind)]
+    kind::memory_size(kind)
 }
 
 // A file of a chip's size, or with the 16 bytes of a footer.
+#[tactic(auto, using(lists::proofs::Bools::tests), unfolding(crate::specs::SaveFit::chip_size))]
 fn chip_size(size: usize, file: usize) -> bool
     ensures { result ≡ chip_size size file }
 {
-    if file < size {
-        return false;
-    }
-    if file == size {
-        return true;
-    }
-    file - size == 16
+    file == size || (size < file && file - size == 16)
 }
 
-pub fn save_fit(kind: SaveType, file: usize) -> SaveFit
+// How many bytes of a save file are kept, or none if the file cannot be this kind's.
+#[tactic(auto, unfolding(crate::specs::SaveFit::save_fit, crate::specs::SaveFit::eeprom_fit, crate::specs::SaveFit::save_size))]
+pub fn save_fit(kind: SaveType, file: usize) -> Option<usize>
     ensures { result ≡ save_fit kind file }
 {
-    if kind::kind_number(kind) == 0 {
-        return SaveFit::Refused;
+    if kind == SaveType::None {
+        return None;
     }
-    if chip_size(small(kind), file) {
-        return SaveFit::Keeps(small(kind));
+    let (small, large) = FILE_SIZES[kind as usize];
+    if chip_size(small, file) {
+        return Some(small);
     }
-    if chip_size(large(kind), file) {
-        return SaveFit::Keeps(save_size(kind));
+    if chip_size(large, file) {
+        return Some(save_size(kind));
     }
-    SaveFit::Refused
+    None
 }
 
 pub fn takes(kind: SaveType, n: usize) -> bool
     ensures { result ≡ taken (save_fit kind n) }
 {
-    let fit = save_fit(kind, n);
-    match fit {
-        SaveFit::Keeps(_) => true,
-        SaveFit::Refused => false,
-    }
+    save_fit(kind, n).is_some()
 }
 
 // The same of an image.
-pub fn save_fit_of(image: &[u8], file: usize) -> SaveFit
+#[tactic(auto, using(lists::proofs::Bools::tests), unfolding(crate::specs::SaveFit::save_fit_of))]
+pub fn save_fit_of(image: &[u8], file: usize) -> Option<usize>
     ensures { result ≡ save_fit_of image.now file }
 {
     if image.len() < 192 {
-        return SaveFit::Refused;
+        return None;
     }
     save_fit(matcher::detect_save_type(image), file)
 }
 
+#[tactic(auto, using(lists::proofs::Bools::tests), unfolding(crate::specs::SaveFit::save_size_of))]
 pub fn save_size_of(image: &[u8]) -> usize
     ensures { result ≡ save_size_of image.now }
 {
@@ -101,12 +81,12 @@ pub fn save_size_of(image: &[u8]) -> usize
 }
 
 // What import keeps of a file, its footer cut off, or an empty part.
+#[tactic(auto, unfolding(crate::specs::SaveFit::kept_part))]
 pub fn kept_part(kind: SaveType, file: &[u8]) -> &[u8]
     ensures { result.now ≡ kept_part kind file.now }
 {
-    let fit = save_fit(kind, file.len());
-    match fit {
-        SaveFit::Keeps(n) => &file[..n],
-        SaveFit::Refused => &file[..0],
+    match save_fit(kind, file.len()) {
+        Some(n) => &file[..n],
+        None => &file[..0],
     }
 }

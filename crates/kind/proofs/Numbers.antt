@@ -1,11 +1,9 @@
--- A kind and its number give each other back; tables by kind number. Assumes nothing.
+-- A kind and its number give each other back. Assumes nothing.
 use mathlib.Core.Path.{◌≡◌, refl, sym}
 use mathlib.Core.Bool.{true}
-use mathlib.Core.List.{[], ◌∷◌}
 use Prim.Native.Nat.{ℕ, ◌<◌}
 use native.Mathlib.Omega.{arith}
 use lib.Dec.{leb, eqb}
-use lib.ListN.{get_or}
 use borrow.Author.Tests.{leb-true, eqb-true, eqb-false}
 use Rattle.lists.proofs.Bools.{split}
 use Rattle.kind.specs.declared.SaveType.{SaveType}
@@ -43,20 +41,3 @@ kind-forth n h =
 -- a kind's number is a byte
 pub kind-lt : (k : SaveType) {n : ℕ} → n ≡ kind_number k → n < 256
 kind-lt k e = rw e (omega (arith, leb-true (kind_number k) 5 (kind-le k)))
-
--- a table read by kind number
-pub number_lt : (kind : SaveType) → kind_number kind < 6
-number_lt None = omega arith
-number_lt Sram = omega arith
-number_lt Flash64 = omega arith
-number_lt Flash128 = omega arith
-number_lt Eeprom512 = omega arith
-number_lt Eeprom8k = omega arith
-
-pub by_number : (kind : SaveType) (a b c d e f : ℕ) → get_or (a ∷ b ∷ c ∷ d ∷ e ∷ f ∷ []) (kind_number kind) 0 ≡ by_kind kind a b c d e f
-by_number None a b c d e f = refl
-by_number Sram a b c d e f = refl
-by_number Flash64 a b c d e f = refl
-by_number Flash128 a b c d e f = refl
-by_number Eeprom512 a b c d e f = refl
-by_number Eeprom8k a b c d e f = refl

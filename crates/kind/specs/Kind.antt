@@ -1,8 +1,9 @@
 -- The kinds. Document 01, "The records" and "The machine", Kind.
-use Rattle.std.specs.Prelude.{Bool, true, false, cond, ◌||◌, List, [], ◌∷◌, ℕ, ltb, eqb, length, drop}
+use Rattle.std.specs.Prelude.{◌≡◌, ◌<◌, Result, MatchResult, Bool, true, false, cond, ◌||◌, List, [], ◌∷◌, ℕ, ltb, eqb, length, drop}
 use Prim.Native.String.{String}
 use Rattle.lists.specs.Lists.{ascii}
 use Rattle.kind.specs.declared.SaveType.{SaveType}
+use Rattle.kind.specs.declared.UnknownKind.{UnknownKind}
 use Rattle.kind.specs.declared.SaveType.TheVariants.{None, Sram, Flash64, Flash128, Eeprom512, Eeprom8k}
 
 -- a value for each kind, in the order of the document
@@ -24,6 +25,10 @@ kind_of n =
     cond (eqb n 0) None
     (cond (eqb n 1) Sram
     (cond (eqb n 2) Flash64 (cond (eqb n 3) Flash128 (cond (eqb n 4) Eeprom512 Eeprom8k))))
+
+-- a number as C passes it: the kind of this number, or no kind's
+abbrev pub Numbered : ℕ → Result SaveType UnknownKind → Type 0
+Numbered n r = MatchResult r (λ kind. kind_number kind ≡ n) (λ e. 5 < n)
 
 -- "Kinds and save memory bytes"
 abbrev pub memory_size : SaveType → ℕ

@@ -2,29 +2,11 @@
 ghost use Rattle.std.specs.Prelude.{◌≡◌, ◌||◌, drop};
 ghost use Rattle.kind.specs.Kind.{begins, sram_code, flash_code, ruby_title};
 
-pub fn begins(s: &[u8], p: &[u8]) -> bool
-    ensures { result ≡ begins p.now s.now }
-{
-    if s.len() < p.len() {
-        return false;
-    }
-    let mut i = 0;
-    while i < p.len() {
-        if p[i] != s[i] {
-            return false;
-        }
-        i += 1;
-    }
-    true
-}
-
+// Whether p stands at a place of s. Nothing stands past the end but a text of no bytes.
 fn begins_at(s: &[u8], place: usize, p: &[u8]) -> bool
     ensures { result ≡ begins p.now (drop place s.now) }
 {
-    if s.len() < place {
-        return p.len() == 0;
-    }
-    begins(&s[place..], p)
+    lists::begins(&s[place.min(s.len())..], p)
 }
 
 // One of three codes at ACh.
@@ -34,13 +16,7 @@ fn code_is(image: &[u8], a: &[u8], b: &[u8], c: &[u8]) -> bool
         || begins b.now (drop 0xac image.now)
         || begins c.now (drop 0xac image.now)) }
 {
-    if begins_at(image, 0xAC, a) {
-        return true;
-    }
-    if begins_at(image, 0xAC, b) {
-        return true;
-    }
-    begins_at(image, 0xAC, c)
+    begins_at(image, 0xAC, a) || begins_at(image, 0xAC, b) || begins_at(image, 0xAC, c)
 }
 
 pub fn sram_code(image: &[u8]) -> bool

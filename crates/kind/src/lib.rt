@@ -6,12 +6,12 @@ mod header;
 mod markers;
 
 ghost use Rattle.std.specs.Prelude.{◌≡◌};
-ghost use Rattle.kind.specs.Kind.{kind_number, kind_of, memory_size, tally_count, uses_eeprom, window_start};
+ghost use Rattle.kind.specs.Kind.{Numbered, kind_number, kind_of, memory_size, tally_count, uses_eeprom, window_start};
 
 pub use header::{flash_code, ruby_title, sram_code};
 pub use markers::{detect_save_type, eeprom_kind};
 
-#[derive(Clone, Copy)]
+#[derive(Clone, Copy, PartialEq, Eq, Debug)]
 pub enum SaveType {
     None,
     Sram,
@@ -24,28 +24,37 @@ pub enum SaveType {
 pub fn kind_number(kind: SaveType) -> usize
     ensures { result ≡ kind_number kind }
 {
-    match kind {
-        SaveType::None => 0,
-        SaveType::Sram => 1,
-        SaveType::Flash64 => 2,
-        SaveType::Flash128 => 3,
-        SaveType::Eeprom512 => 4,
-        SaveType::Eeprom8k => 5,
+    kind as usize
+}
+
+// A number that is no kind's.
+#[derive(Clone, Copy, PartialEq, Eq, Debug)]
+pub struct UnknownKind;
+
+impl TryFrom<u32> for SaveType {
+    type Error = UnknownKind;
+
+    ghost try_from_gives = { Numbered };
+
+    fn try_from(n: u32) -> Result<Self, UnknownKind> {
+        match n {
+            0 => Ok(SaveType::None),
+            1 => Ok(SaveType::Sram),
+            2 => Ok(SaveType::Flash64),
+            3 => Ok(SaveType::Flash128),
+            4 => Ok(SaveType::Eeprom512),
+            5 => Ok(SaveType::Eeprom8k),
+            _ => Err(UnknownKind),
+        }
     }
 }
 
-// A kind by its number; no number above 5 is one.
+// A kind by its number; any number above 5 gives Eeprom8k.
+#[tactic(auto, unfolding(crate::specs::Kind::kind_of))]
 pub fn kind_of(n: u8) -> SaveType
     ensures { result ≡ kind_of n }
 {
-    match n {
-        0 => SaveType::None,
-        1 => SaveType::Sram,
-        2 => SaveType::Flash64,
-        3 => SaveType::Flash128,
-        4 => SaveType::Eeprom512,
-        _ => SaveType::Eeprom8k,
-    }
+    SaveType::try_from(n as u32).unwrap_or(SaveType::Eeprom8k)
 }
 
 pub fn memory_size(kind: SaveType) -> usize
@@ -56,8 +65,7 @@ pub fn memory_size(kind: SaveType) -> usize
         SaveType::Sram => 32768,
         SaveType::Flash64 => 65536,
         SaveType::Flash128 => 131072,
-        SaveType::Eeprom512 => 8192,
-        SaveType::Eeprom8k => 8192,
+        SaveType::Eeprom512 | SaveType::Eeprom8k => 8192,
     }
 }
 
@@ -71,14 +79,7 @@ pub fn tally_count(kind: SaveType) -> usize
 pub fn uses_eeprom(kind: SaveType) -> bool
     ensures { result ≡ uses_eeprom kind }
 {
-    match kind {
-        SaveType::None => false,
-        SaveType::Sram => false,
-        SaveType::Flash64 => false,
-        SaveType::Flash128 => false,
-        SaveType::Eeprom512 => true,
-        SaveType::Eeprom8k => true,
-    }
+    matches!(kind, SaveType::Eeprom512 | SaveType::Eeprom8k)
 }
 
 // Where the EEPROM is on the bus, by the image's length.

@@ -4,28 +4,16 @@ ghost use Rattle.std.specs.Prelude.{◌≡◌};
 ghost use Rattle.kind.specs.Kind.{stands, eeprom_kind, detect_save_type};
 
 use crate::SaveType;
-use crate::header::{begins, flash_code, ruby_title, sram_code};
+use crate::header::{flash_code, ruby_title, sram_code};
 
-// Whether the marker occurs anywhere, however far back. Its first byte is tested before the others.
-pub fn contains(s: &[u8], marker: &[u8]) -> bool
+// Whether the marker occurs anywhere, however far back.
+fn contains(s: &[u8], marker: &[u8]) -> bool
     ensures { result ≡ stands marker.now s.now }
 {
-    if marker.len() == 0 {
-        return 0 < s.len();
-    }
-    if s.len() < marker.len() {
-        return false;
-    }
-    let first = marker[0];
-    let last = s.len() - marker.len();
-    let mut i = 0;
-    while i <= last {
-        if s[i] == first {
-            if begins(&s[i..], marker) {
-                return true;
-            }
+    for place in 0..s.len() {
+        if lists::begins(&s[place..], marker) {
+            return true;
         }
-        i += 1;
     }
     false
 }
@@ -40,6 +28,7 @@ pub fn eeprom_kind(length: usize) -> SaveType
     }
 }
 
+#[tactic(auto, unfolding(crate::specs::Kind::detect_save_type))]
 pub fn detect_save_type(image: &[u8]) -> SaveType
     ensures { result ≡ detect_save_type image.now }
 {
@@ -52,10 +41,7 @@ pub fn detect_save_type(image: &[u8]) -> SaveType
     if contains(image, b"SRAM_V") {
         return SaveType::Sram;
     }
-    if contains(image, b"FLASH_V") {
-        return SaveType::Flash64;
-    }
-    if contains(image, b"FLASH512_V") {
+    if contains(image, b"FLASH_V") || contains(image, b"FLASH512_V") {
         return SaveType::Flash64;
     }
     if contains(image, b"FLASH1M_V") {

@@ -1,54 +1,44 @@
--- A marker's end tested byte by byte, and the pair _V that each marker ends with. Assumes nothing.
+-- A marker's end tested, and the pair _V that each marker ends with. Assumes nothing.
 use mathlib.Core.Path.{◌≡◌, refl, sym, ap, ◌∙◌}
-use mathlib.Core.Bool.{Bool, true, false, cond, ◌&&◌, ◌||◌, or-false, and-false}
-use mathlib.Core.List.{List, [], ◌∷◌}
-use Prim.Native.Nat.{ℕ, suc, ◌+◌, ◌≤◌}
+use mathlib.Core.Bool.{Bool, true, false, cond, ◌&&◌, ◌||◌, or_assoc, or-false, and-false}
+use mathlib.Core.List.{List, [], ◌∷◌, ◌++◌, reverse, reverse-append, reverse-reverse}
+use Prim.Native.Nat.{ℕ, ◌-◌}
 use native.Mathlib.Omega.{arith}
 use lib.Dec.{eqb}
 use lib.ListN.{length, get_or, take, drop}
-use lib.Seq.{drop-cons}
+use lib.Seq.{take_all}
 use borrow.Author.Tests.{ne_eqb}
+use Rattle.std.specs.List.{ends_with}
+use Rattle.std.proofs.lemmas.Bool.Decides.{Decides-eqb}
+use Rattle.std.proofs.lemmas.Slice.Eq.{ends_is}
 use Rattle.lists.proofs.Bools.{either}
 use Rattle.lists.proofs.Parts.{spells}
 use Rattle.kind.specs.Kind.{begins}
 use Rattle.matcher.specs.declared.Matcher.{Matcher}
 use Rattle.matcher.specs.Matcher.{backwards, step}
 use Rattle.matcher.specs.Quiet.{with_last}
+use Rattle.matcher.proofs.Standing.{begins-own, begins-split, same}
 
--- tests one after another, from the left and nested
-abbrev nest : List Bool → Bool
-nest [] = true
-nest (x ∷ xs) = cond x (nest xs) false
+-- the last byte and the nine before it, oldest first
+abbrev text : ℕ → List ℕ → List ℕ
+text b l = get_or l 8 0 ∷ get_or l 7 0 ∷ get_or l 6 0 ∷ get_or l 5 0 ∷ get_or l 4 0 ∷ get_or l 3 0 ∷ get_or l 2 0 ∷ get_or l 1 0 ∷ get_or l 0 0 ∷ b ∷ []
 
-abbrev all : Bool → List Bool → Bool
-all a [] = a
-all a (x ∷ xs) = all (a && x) xs
+newest-first : (b : ℕ) (l : List ℕ) → length l ≡ 9 → reverse (text b l) ≡ b ∷ l
+newest-first b l h = ap (λ (x : List ℕ). b ∷ x) (sym (spells l 0 9 0 (omega arith)) ∙ take_all 9 l (omega arith))
 
-all-nest : (a : Bool) (xs : List Bool) → all a xs ≡ cond a (nest xs) false
-all-nest true [] = refl
-all-nest false [] = refl
-all-nest true (x ∷ xs) = all-nest x xs
-all-nest false (x ∷ xs) = all-nest false xs
+-- a text that ends with p begins with it, read from the other end
+from-end : (p t : List ℕ) → ends_with eqb t p ≡ begins (reverse p) (reverse t)
+from-end p t =
+    let n = length t - length p in
+    let e = ends_is Decides-eqb t p (ends_with eqb t p) refl in
+    same (ends_with eqb t p) (begins (reverse p) (reverse t))
+    (λ h. ap (λ (l : List ℕ). begins (reverse p) (reverse l)) (e.0 h) ∙ ap (begins (reverse p)) (reverse-append (take n t) p) ∙ begins-own (reverse p) (reverse (take n t)))
+    (λ h.
+    let r = drop (length (reverse p)) (reverse t) in
+    e.1 (reverse r) (sym (reverse-reverse t) ∙ ap (λ (l : List ℕ). reverse l) (begins-split (reverse p) (reverse t) h) ∙ reverse-append (reverse p) r ∙ ap (λ (l : List ℕ). reverse r ++ l) (reverse-reverse p)))
 
--- the bytes p against those of l from place i on
-abbrev tests : List ℕ → List ℕ → ℕ → List Bool
-tests [] l i = []
-tests (c ∷ p) l i = eqb c (get_or l i 0) ∷ tests p l (suc i)
-
-nest-begins : (p l : List ℕ) (i : ℕ) → i + length p ≤ length l → nest (tests p l i) ≡ begins p (drop i l)
-unfolding begins
-nest-begins [] l i h = refl
-nest-begins (c ∷ p) l i h = rw (drop-cons l i 0 (omega arith), nest-begins p l (suc i) (omega arith))
-
--- the code's chain of tests
-abbrev tested : List ℕ → ℕ → List ℕ → Bool
-tested [] b l = true
-tested (c ∷ p) b l = all (eqb c b) (tests p l 0)
-
-pub ends : (q : List ℕ) (b : ℕ) (l : List ℕ) → length q ≤ 10 → length l ≡ 9 → tested q b l ≡ begins q (b ∷ l)
-unfolding begins
-ends [] b l h k = refl
-ends (c ∷ p) b l h k = all-nest (eqb c b) (tests p l 0) ∙ ap (λ (t : Bool). cond (eqb c b) t false) (nest-begins p l 0 (omega arith))
+pub ended : (p : List ℕ) (b : ℕ) (l : List ℕ) → length l ≡ 9 → ends_with eqb (text b l) p ≡ begins (reverse p) (b ∷ l)
+ended p b l h = from-end p (text b l) ∙ ap (begins (reverse p)) (newest-first b l h)
 
 -- the last bytes with one more in front
 abbrev eight : List ℕ → List ℕ
@@ -89,9 +79,9 @@ quiet_step m b h =
 -- where the pair is there: each marker's end by its own test
 pub stepped : (m : Matcher) (b : ℕ) {s f g h e : Bool} → length m.last ≡ 9 → s ≡ begins (backwards "SRAM_V") (b ∷ m.last) → f ≡ begins (backwards "FLASH_V") (b ∷ m.last)
     → g ≡ begins (backwards "FLASH512_V") (b ∷ m.last) → h ≡ begins (backwards "FLASH1M_V") (b ∷ m.last) → e ≡ begins (backwards "EEPROM_V") (b ∷ m.last)
-    → ◌≡◌ {A = Matcher} (record { sram = m.sram || s; flash64 = m.flash64 || (f || g); flash128 = m.flash128 || h; eeprom = m.eeprom || e; last = b ∷ eight m.last }) (step m b)
+    → ◌≡◌ {A = Matcher} (record { sram = m.sram || s; flash64 = (m.flash64 || f) || g; flash128 = m.flash128 || h; eeprom = m.eeprom || e; last = b ∷ eight m.last }) (step m b)
 unfolding step
-stepped m b n p q r t u = rw (newer b m.last n, p, q, r, t, u)
+stepped m b n p q r t u = rw (newer b m.last n, p, q, r, t, u, or_assoc m.flash64 (begins (backwards "FLASH_V") (b ∷ m.last)) (begins (backwards "FLASH512_V") (b ∷ m.last)))
 
 -- no V, or no _ before it
 pub no-v : (a b : ℕ) → (0x56 ≡ b → ⊥) → eqb 0x5f a && eqb 0x56 b ≡ false

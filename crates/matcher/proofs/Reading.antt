@@ -9,7 +9,7 @@ use native.Mathlib.Numerals.{add-one}
 use native.Mathlib.Omega.{arith}
 use lib.Dec.{eqb}
 use lib.ListN.{length, get_or, take, drop, drop_of_length-le, length-drop, length-take, take-append-drop}
-use lib.Seq.{drop-cons, drop-drop, take-take, take_all, length-take-le}
+use lib.Seq.{drop-cons, take-take, take_all, length-take-le}
 use Rattle.lists.proofs.Bools.{cases, or-true}
 use Rattle.lists.proofs.Parts.{spelled, spells}
 use Rattle.matcher.specs.declared.Matcher.{Matcher}
@@ -103,12 +103,6 @@ reads-nine m [] h = h
 reads-nine m (b ∷ s) h =
     cases m.sram (λ e. rw (reads-stop m (b ∷ s) e) h)
     (λ e. rw (reads-one m b s e) (reads-nine (step m b) s (ap suc (length-take-le 8 m.last (omega arith)))))
-
--- an advance at place n
-pub advance-on : (m : Matcher) (s : List ℕ) (n : ℕ) (f : Fed) → Advanced m (drop n s) f → more (n + f.count) (reads f.matcher (drop (n + f.count) s)) ≡ more n (reads m (drop n s))
-advance-on m s n f h =
-    sym (more-more n f.count (reads f.matcher (drop (n + f.count) s)))
-    ∙ ap (more n) (ap (λ (l : List ℕ). more f.count (reads f.matcher l)) (sym (drop-drop f.count n s)) ∙ h.rest)
 
 -- bytes without the pair are passed over: what was seen stays, and the last bytes are their own
 back : (s l : List ℕ) (n k : ℕ) → n ≤ k → take n (s ++ take k l) ≡ take n (s ++ l)

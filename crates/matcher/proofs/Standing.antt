@@ -49,7 +49,7 @@ pub enough : (q : List ℕ) (b : ℕ) (r : List ℕ) → length q ≤ 10 → pla
 enough q b r h k = begins-take q (b ∷ (r ++ replicate 9 0)) 10 h ∙ begins-zeros q (b ∷ r) 9 k
 
 -- a text that begins with p, and one in which p stands
-begins-own : (p t : List ℕ) → begins p (p ++ t) ≡ true
+pub begins-own : (p t : List ℕ) → begins p (p ++ t) ≡ true
 unfolding begins
 begins-own [] t = refl
 begins-own (b ∷ p) t = rw (eq-eqb b b refl) (begins-own p t)
@@ -96,7 +96,7 @@ backward p s h e =
     ap (λ (l : List ℕ). reverse l) w.is ∙ reverse-append w.front (p ++ w.behind) ∙ ap (λ (l : List ℕ). l ++ reverse w.front) (reverse-append p w.behind) ∙ append_assoc (reverse w.behind) (reverse p) (reverse w.front) in
     ap (stands (reverse p)) k ∙ stands-in (reverse p) (reverse w.behind) (reverse w.front) (omega (arith, length-reverse p))
 
-same : (a b : Bool) → (a ≡ true → b ≡ true) → (b ≡ true → a ≡ true) → a ≡ b
+pub same : (a b : Bool) → (a ≡ true → b ≡ true) → (b ≡ true → a ≡ true) → a ≡ b
 same true b f g = sym (f refl)
 same false true f g = g refl
 same false false f g = refl

@@ -11,30 +11,19 @@ fn over_bytes(m: Matcher, part: &[u8]) -> Fed
     ensures { result ≡ reads m part.now }
 {
     let mut now = m;
-    let mut n = 0;
-    while n < part.len() {
+    for (count, b) in part.iter().enumerate() {
         if now.sram {
             return Fed {
                 matcher: now,
-                count: n,
+                count,
             };
         }
-        now = step(now, part[n]);
-        n += 1;
+        now = step(now, *b);
     }
     Fed {
         matcher: now,
-        count: n,
+        count: part.len(),
     }
-}
-
-fn at_most_32(n: usize) -> usize
-    ensures { (result ≤ n) × (0 < n → 0 < result) }
-{
-    if n < 32 {
-        return n;
-    }
-    32
 }
 
 // From the front of a part: bytes without _V at once, or up to 32 bytes one by one. `over_bytes` is called at this one
@@ -43,16 +32,14 @@ fn advance(m: Matcher, part: &[u8]) -> Fed
     requires { (m.sram ≡ false) × (0 < length part.now) }
     ensures { Advanced m part.now result }
 {
-    let l = m.last;
-    let run = quiet_run(l[0], part);
+    let run = quiet_run(m.last[0], part);
     if run != 0 {
         return Fed {
             matcher: pass_over(m, &part[..run]),
             count: run,
         };
     }
-    let some = at_most_32(part.len());
-    over_bytes(m, &part[..some])
+    over_bytes(m, &part[..part.len().min(32)])
 }
 
 // The whole part, until SRAM_V has been seen.
@@ -61,13 +48,8 @@ pub fn feed(m: Matcher, part: &[u8]) -> Fed
 {
     let mut now = m;
     let mut n = 0;
-    while n < part.len() {
-        if now.sram {
-            return Fed {
-                matcher: now,
-                count: n,
-            };
-        }
+    // Kept: a turn hands over as many bytes as `advance` says, and no iterator steps by that.
+    while n < part.len() && !now.sram {
         let some = advance(now, &part[n..]);
         now = some.matcher;
         n += some.count;

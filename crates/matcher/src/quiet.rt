@@ -11,10 +11,8 @@ fn pair_in(w: &[u8]) -> bool
     ensures { result ≡ pairs (get_or w.now 0 0) (drop 1 w.now) }
 {
     let mut hit = false;
-    let mut i = 0;
-    while i < 32 {
-        hit = hit | ((b'_' == w[i]) & (b'V' == w[i + 1]));
-        i += 1;
+    for i in 0..32 {
+        hit |= (b'_' == w[i]) & (b'V' == w[i + 1]);
     }
     hit
 }
@@ -31,6 +29,7 @@ pub fn quiet_run(before: u8, part: &[u8]) -> usize
     }
     let last = part.len() - 33;
     let mut n = 0;
+    // Kept: the place reached is the answer, and a `for` by steps of 32 does not have it at its end.
     while n <= last {
         let end = n + 33;
         if pair_in(&part[n..end]) {
@@ -50,7 +49,7 @@ pub fn pass_over(m: Matcher, part: &[u8]) -> Matcher
     ensures { result ≡ after m part.now }
 {
     let n = part.len() - 9;
-    let next = [
+    let last = [
         part[n + 8],
         part[n + 7],
         part[n + 6],
@@ -61,11 +60,5 @@ pub fn pass_over(m: Matcher, part: &[u8]) -> Matcher
         part[n + 1],
         part[n],
     ];
-    Matcher {
-        sram: m.sram,
-        flash64: m.flash64,
-        flash128: m.flash128,
-        eeprom: m.eeprom,
-        last: next,
-    }
+    Matcher { last, ..m }
 }

@@ -11,13 +11,11 @@ use kind::SaveType;
 fn code_decides(image: &[u8]) -> bool
     ensures { result ≡ code_decides image.now }
 {
-    if kind::sram_code(image) {
-        return true;
-    }
-    kind::flash_code(image)
+    kind::sram_code(image) || kind::flash_code(image)
 }
 
 // The kind by header, length and the matcher after the image's bytes.
+#[tactic(auto, unfolding(crate::specs::Search::kind_after))]
 pub fn finish(m: Matcher, header: &[u8], length: usize) -> SaveType
     ensures { result ≡ kind_after header.now length m }
 {
@@ -63,9 +61,9 @@ pub fn search(image: &[u8]) -> Found
 }
 
 // The kind alone, for the calls.
+#[tactic(auto, unfolding(crate::specs::Search::found))]
 pub fn detect_save_type(image: &[u8]) -> SaveType
     ensures { result ≡ detect_save_type image.now }
 {
-    let found = search(image);
-    found.kind
+    search(image).kind
 }

@@ -8,12 +8,12 @@ use Rattle.lists.proofs.Bools.{either}
 use Rattle.kind.specs.declared.SaveType.{SaveType}
 use Rattle.kind.specs.declared.SaveType.TheVariants.{None, Sram, Flash64, Flash128, Eeprom512, Eeprom8k}
 use Rattle.kind.specs.Kind.{detect_save_type}
-use Rattle.file_sizes.specs.declared.SaveFit.{SaveFit}
+use Rattle.std.specs.Prelude.{Option}
 use Rattle.file_sizes.specs.SaveFit.{chip_size, eeprom_fit, save_fit, save_fit_of, taken}
 use Rattle.out_params.specs.Places.{kept_length, fit_answer}
 use Rattle.out_params.specs.Claims.{NoneIsZero}
 
-abbrev Told : SaveFit → Type 0
+abbrev Told : Option ℕ → Type 0
 Told fit = ltb 0 (kept_length fit) ≡ taken fit
 
 fit-told : (k : SaveType) (n : ℕ) → Told (save_fit k n)

@@ -1,12 +1,10 @@
 -- What a call leaves in an out-parameter; and the answers by number of the calls on an image.
-use Rattle.std.specs.Prelude.{cond, List, [], ◌∷◌, ℕ, leb, eqb}
+use Rattle.std.specs.Prelude.{cond, Option, Some, None, List, [], ◌∷◌, ℕ, leb, eqb}
 use Rattle.lists.specs.Questions.{◌else◌}
 use Rattle.image.specs.Image.{Answer}
 use Rattle.image.specs.Image.{image_question, accepted, answered}
 use Rattle.kind.specs.Kind.{kind_number, kind_of, memory_size, detect_save_type}
 use Rattle.part.specs.Part.{part_of, id_word, number_fits}
-use Rattle.file_sizes.specs.declared.SaveFit.{SaveFit}
-use Rattle.file_sizes.specs.declared.SaveFit.TheVariants.{Keeps, Refused}
 use Rattle.file_sizes.specs.SaveFit.{save_fit_of, save_size_of}
 
 -- an accepted call puts its value there; a refused one leaves what is there
@@ -29,9 +27,9 @@ unfoldable pub kind_answer : List ℕ → Answer
 kind_answer image = answered (image_question image ∷ []) (kind_number (detect_save_type image))
 
 -- what `save_fit` keeps: no kind keeps 0 bytes of a file, so 0 stands for "none"
-abbrev pub kept_length : SaveFit → ℕ
-kept_length (Keeps n) = n
-kept_length Refused = 0
+abbrev pub kept_length : Option ℕ → ℕ
+kept_length (Some n) = n
+kept_length None = 0
 
 unfoldable pub fit_answer : List ℕ → ℕ → Answer
 fit_answer image file = accepted (kept_length (save_fit_of image file))

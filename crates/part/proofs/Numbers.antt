@@ -1,11 +1,9 @@
--- A part and its number give each other back; tables by part number. Assumes nothing.
+-- A part and its number give each other back. Assumes nothing.
 use mathlib.Core.Path.{◌≡◌, refl, sym}
 use mathlib.Core.Bool.{true}
-use mathlib.Core.List.{[], ◌∷◌}
 use Prim.Native.Nat.{ℕ, ◌<◌}
 use native.Mathlib.Omega.{arith}
 use lib.Dec.{leb, eqb}
-use lib.ListN.{get_or}
 use borrow.Author.Tests.{leb-true, eqb-true, eqb-false}
 use Rattle.lists.proofs.Bools.{split}
 use Rattle.part.specs.declared.Part.{Part}
@@ -40,14 +38,6 @@ part-forth n h =
     (λ e3. split P (eqb n 4) (λ e. sym (eqb-true n 4 e))
     (λ e4. omega (arith, leb-true n 5 h, eqb-false n 0 e0, eqb-false n 1 e1, eqb-false n 2 e2, eqb-false n 3 e3, eqb-false n 4 e4))))))
 
--- a table read by part number
+-- a part's number is an index of a table of six
 pub part-lt : (p : Part) → part_number p < 6
 part-lt p = omega (arith, leb-true (part_number p) 5 (part-le p))
-
-pub by_part_lem : (p : Part) (a b c d e f : ℕ) → get_or (a ∷ b ∷ c ∷ d ∷ e ∷ f ∷ []) (part_number p) 0 ≡ by_part p a b c d e f
-by_part_lem Usual a b c d e f = refl
-by_part_lem Sst64 a b c d e f = refl
-by_part_lem Macronix64 a b c d e f = refl
-by_part_lem Panasonic64 a b c d e f = refl
-by_part_lem Sanyo128 a b c d e f = refl
-by_part_lem Macronix128 a b c d e f = refl

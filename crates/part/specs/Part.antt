@@ -1,8 +1,9 @@
 -- The flash parts. Document 02, ticket 1.
-use Rattle.std.specs.Prelude.{Bool, cond, ◌&&◌, ◌||◌, ℕ, leb, eqb}
+use Rattle.std.specs.Prelude.{◌≡◌, ◌<◌, Result, MatchResult, Bool, cond, ◌&&◌, ◌||◌, ℕ, leb, eqb}
 use Rattle.kind.specs.declared.SaveType.{SaveType}
 use Rattle.kind.specs.Kind.{by_kind, memory_size}
 use Rattle.part.specs.declared.Part.{Part}
+use Rattle.part.specs.declared.UnknownPart.{UnknownPart}
 use Rattle.part.specs.declared.Part.TheVariants.{Usual, Sst64, Macronix64, Panasonic64, Sanyo128, Macronix128}
 
 -- a value for each part: the usual one, then GBATEK's list
@@ -24,6 +25,10 @@ part_of n =
     cond (eqb n 0) Usual
     (cond (eqb n 1) Sst64
     (cond (eqb n 2) Macronix64 (cond (eqb n 3) Panasonic64 (cond (eqb n 4) Sanyo128 Macronix128))))
+
+-- a number as C passes it: the part of this number, or no part's
+abbrev pub Numbered : ℕ → Result Part UnknownPart → Type 0
+Numbered n r = MatchResult r (λ part. part_number part ≡ n) (λ e. 5 < n)
 
 -- "64K SST D4BFh, Macronix 1CC2h, Panasonic 1B32h; 128K Sanyo 1362h, Macronix 09C2h; or the usual one": the sizes and
 -- the ID words of the named parts

@@ -3,13 +3,13 @@
 #![tactic(auto)]
 
 ghost use Rattle.std.specs.Prelude.{◌≡◌};
-ghost use Rattle.part.specs.Part.{part_number, part_of, part_size, part_word, usual_word, id_word};
+ghost use Rattle.part.specs.Part.{Numbered, part_number, part_of, part_size, part_word, usual_word, id_word};
 ghost use Rattle.part.specs.Part.{number_fits, part_fits};
 
 use kind::SaveType;
 
 // The chip that a maker put in, or the usual one of the kind.
-#[derive(Clone, Copy)]
+#[derive(Clone, Copy, PartialEq, Eq, Debug)]
 pub enum Part {
     Usual,
     Sst64,
@@ -19,11 +19,15 @@ pub enum Part {
     Macronix128,
 }
 
-// How many bytes the named parts have, and their ID words, by part number: maker in the low byte, device in the high
-// byte.
-const SIZES: [usize; 6] = [0, 65536, 65536, 65536, 131072, 131072];
-
-const ID_WORDS: [u16; 6] = [0, 0xD4BF, 0x1CC2, 0x1B32, 0x1362, 0x09C2];
+// By part number: how many bytes a named part has, and its ID word, maker in the low byte, device in the high byte.
+const NAMED_PARTS: [(usize, u16); 6] = [
+    (0, 0),
+    (65536, 0xD4BF),
+    (65536, 0x1CC2),
+    (65536, 0x1B32),
+    (131072, 0x1362),
+    (131072, 0x09C2),
+];
 
 // ID words of the usual part, by kind number.
 const USUAL_ID_WORDS: [u16; 6] = [0, 0, 0x1B32, 0x1362, 0, 0];
@@ -31,75 +35,83 @@ const USUAL_ID_WORDS: [u16; 6] = [0, 0, 0x1B32, 0x1362, 0, 0];
 pub fn part_number(part: Part) -> usize
     ensures { result ≡ part_number part }
 {
-    match part {
-        Part::Usual => 0,
-        Part::Sst64 => 1,
-        Part::Macronix64 => 2,
-        Part::Panasonic64 => 3,
-        Part::Sanyo128 => 4,
-        Part::Macronix128 => 5,
+    part as usize
+}
+
+// A number that is no part's.
+#[derive(Clone, Copy, PartialEq, Eq, Debug)]
+pub struct UnknownPart;
+
+impl TryFrom<u32> for Part {
+    type Error = UnknownPart;
+
+    ghost try_from_gives = { Numbered };
+
+    fn try_from(n: u32) -> Result<Self, UnknownPart> {
+        match n {
+            0 => Ok(Part::Usual),
+            1 => Ok(Part::Sst64),
+            2 => Ok(Part::Macronix64),
+            3 => Ok(Part::Panasonic64),
+            4 => Ok(Part::Sanyo128),
+            5 => Ok(Part::Macronix128),
+            _ => Err(UnknownPart),
+        }
     }
 }
 
-// A part by its number; no number above 5 is one.
+// A part by its number; any number above 5 gives Macronix128.
+#[tactic(auto, unfolding(crate::specs::Part::part_of))]
 pub fn part_of(n: u32) -> Part
     ensures { result ≡ part_of n }
 {
-    match n {
-        0 => Part::Usual,
-        1 => Part::Sst64,
-        2 => Part::Macronix64,
-        3 => Part::Panasonic64,
-        4 => Part::Sanyo128,
-        _ => Part::Macronix128,
-    }
+    Part::try_from(n).unwrap_or(Part::Macronix128)
 }
 
-fn size(part: Part) -> usize
+fn named_size(part: Part) -> usize
     ensures { result ≡ part_size part }
 {
-    SIZES[part_number(part)]
+    let (size, _) = NAMED_PARTS[part as usize];
+    size
 }
 
 // A named part has the kind's size; the usual one fits every kind.
+#[tactic(auto, unfolding(crate::specs::Part::part_fits))]
 pub fn part_fits(part: Part, kind: SaveType) -> bool
     ensures { result ≡ part_fits part kind }
 {
-    if part_number(part) == 0 {
-        return true;
-    }
-    size(part) == kind::memory_size(kind)
+    part == Part::Usual || named_size(part) == kind::memory_size(kind)
 }
 
 // Of a part's number; one that names no part fits no kind.
-#[tactic(auto, using(lists::proofs::Bools::tests), unfolding(crate::specs::Part::number_fits))]
+#[tactic(auto, using(lists::proofs::Bools::tests), unfolding(crate::specs::Part::part_of))]
 pub fn number_fits(n: u32, kind: SaveType) -> bool
     ensures { result ≡ number_fits n kind }
 {
-    if 5 < n {
-        return false;
-    }
-    part_fits(part_of(n), kind)
+    Part::try_from(n).is_ok_and(|part| part_fits(part, kind))
 }
 
 fn named_word(part: Part) -> u16
     ensures { result ≡ part_word part }
 {
-    ID_WORDS[part_number(part)]
+    let (_, word) = NAMED_PARTS[part as usize];
+    word
 }
 
 fn usual_word(kind: SaveType) -> u16
     ensures { result ≡ usual_word kind }
 {
-    USUAL_ID_WORDS[kind::kind_number(kind)]
+    USUAL_ID_WORDS[kind as usize]
 }
 
 // What ID mode shows.
+#[tactic(auto, unfolding(crate::specs::Part::id_word))]
 pub fn id_word(part: Part, kind: SaveType) -> u16
     ensures { result ≡ id_word part kind }
 {
-    if part_number(part) == 0 {
-        return usual_word(kind);
+    if part == Part::Usual {
+        usual_word(kind)
+    } else {
+        named_word(part)
     }
-    named_word(part)
 }

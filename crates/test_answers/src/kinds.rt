@@ -2,7 +2,6 @@
 ghost use Rattle.std.specs.Prelude.{◌≤◌, length};
 
 use crate::digits::{byte, bytes_of, number};
-use file_sizes::SaveFit;
 use kind::SaveType;
 
 // A kind by its number.
@@ -26,12 +25,12 @@ fn print_number(x: u32, out: &mut [u8]) -> usize
     frames::print_line(out, 0, &answer)
 }
 
-fn print_fit(fit: SaveFit, out: &mut [u8]) -> usize
+fn print_fit(fit: Option<usize>, out: &mut [u8]) -> usize
     requires { 256 ≤ length out.old }
 {
     match fit {
-        SaveFit::Keeps(n) => print_number((n % 4294967296) as u32, out),
-        SaveFit::Refused => frames::print_line(out, 14, b""),
+        Some(n) => print_number((n % 4294967296) as u32, out),
+        None => frames::print_line(out, 14, b""),
     }
 }
 

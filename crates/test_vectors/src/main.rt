@@ -10,7 +10,6 @@ mod searches;
 
 ghost use Rattle.std.specs.Prelude.{◌+◌, ◌≤◌, length};
 
-use file_sizes::SaveFit;
 use kind::SaveType;
 use std::io;
 
@@ -69,13 +68,12 @@ fn title(rt: &impl Print, bytes: &[u8]) -> io::Result<()>
 fn fit(rt: &impl Print, kind: SaveType, file: usize) -> io::Result<()> {
     print(rt, b" ")?;
     rt.print(file as u64)?;
-    let answer = file_sizes::save_fit(kind, file);
-    match answer {
-        SaveFit::Keeps(n) => {
+    match file_sizes::save_fit(kind, file) {
+        Some(n) => {
             print(rt, b">")?;
             rt.print(n as u64)
         }
-        SaveFit::Refused => print(rt, b"-"),
+        None => print(rt, b"-"),
     }
 }
 

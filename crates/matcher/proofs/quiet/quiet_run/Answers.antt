@@ -10,11 +10,6 @@ loop-n-init c =
     let a = c.args in
     (omega arith, (λ h. absurd (h refl)), pairs_first a.before a.part.now (omega arith) c.if-before-part.false)
 
-pub returns-then-pair_in : goal.returns-then-pair_in
-returns-then-pair_in c =
-    let i = c.loop-n.invariant in
-    record { within = i.0; enough = λ _. omega (arith, i.1 c.if-n-eq0.false); calm = i.2 }
-
 pub loop-n-preserved : goal.loop-n-preserved
 loop-n-preserved c =
     let a = c.args in
@@ -25,11 +20,6 @@ loop-n-preserved c =
       pairs-join a.before s b.n 32 (omega arith) b.invariant.2
           (sym (window s b.n (b.n + 33 - b.n) (omega arith) (omega arith)) ∙ sym c.pair_in.ensures ∙ c.if-pair_in.false),
     )
-
-pub returns : goal.returns
-returns c =
-    let i = c.loop-n.invariant in
-    record { within = i.0; enough = λ _. omega (arith, i.1 (λ e. omega arith)); calm = i.2 }
 
 pub returns-then-part-lt33 : goal.returns-then-part-lt33
 returns-then-part-lt33 c = quiet_none _ _

@@ -1,9 +1,0 @@
-use native.Mathlib.Omega.{arith}
-use Rattle.matcher.specs.Matcher.{backwards}
-use Rattle.matcher.proofs.Endings.{ends}
-use borrow.Author.Rules.{rules}
-use Rattle.matcher.proofs.step.ends_eeprom.Goals as goal
-
-pub returns : goal.returns
-unfolding backwards
-returns c = ends (backwards "EEPROM_V") c.args.b c.args.l (omega arith) (search rules)
