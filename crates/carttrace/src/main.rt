@@ -9,12 +9,6 @@ use carttrace_lib::Session;
 use std::io;
 use std::io::Read;
 
-#[derive(Clone, Copy)]
-struct Turn {
-    session: Session,
-    more: bool,
-}
-
 // Room for the save memory of every kind.
 fn memory() -> [u8; 131072]
     ensures { 131072 ≡ length result }
@@ -29,35 +23,23 @@ fn output() -> [u8; 65536]
     [0; 65536]
 }
 
-// A piece of the input: 1,024 characters print at most 39 each.
+// Plays a piece of the input, and prints its answers: 1,024 characters print at most 39 each.
 fn piece(
     rt: &impl Print,
-    input: &mut impl Read,
+    text: &[u8],
     session: Session,
     memory: &mut [u8],
     tallies: &mut [u16],
     out: &mut [u8],
-) -> io::Result<Turn>
+) -> io::Result<Session>
+    requires text_bound { length text.now ≤ 1024 }
     requires in_bounds { 131072 ≤ length memory.old }
     requires in_bounds_2 { 32 ≤ length tallies.old }
     requires in_bounds_3 { 65536 ≤ length out.old }
 {
-    let mut text = [0u8; 1024];
-    let n = input.read(&mut text)?;
-    if n == 0 {
-        return Ok(Turn {
-            session: session,
-            more: false,
-        });
-    }
-    let t = carttrace_lib::feed(session, &text[..n], memory, tallies, out);
-    let len = t.len;
-    let next = t.session;
-    rt.write_all(&out[..len])?;
-    Ok(Turn {
-        session: next,
-        more: !carttrace_lib::over(next),
-    })
+    let told = carttrace_lib::feed(session, text, memory, tallies, out);
+    rt.write_all(&out[..told.len])?;
+    Ok(told.session)
 }
 
 // Reads to the end of the input, or until line 1 is bad.
@@ -73,10 +55,14 @@ fn pieces(
     requires in_bounds_3 { 65536 ≤ length out.old }
 {
     let mut session = carttrace_lib::opened();
+    let mut text = [0u8; 1024];
     for _ in 0..u64::MAX {
-        let t = piece(rt, input, session, memory, tallies, out)?;
-        session = t.session;
-        if !t.more {
+        let n = input.read(&mut text)?;
+        if n == 0 {
+            break;
+        }
+        session = piece(rt, &text[..n], session, memory, tallies, out)?;
+        if carttrace_lib::over(session) {
             break;
         }
     }
@@ -95,9 +81,8 @@ fn run(
     requires in_bounds_3 { 65536 ≤ length out.old }
 {
     let session = pieces(rt, input, memory, tallies, out)?;
-    let t = carttrace_lib::finish(session, memory, tallies, out);
-    let len = t.len;
-    rt.write_all(&out[..len])
+    let told = carttrace_lib::finish(session, memory, tallies, out);
+    rt.write_all(&out[..told.len])
 }
 
 fn main(rt: HostRuntime) -> io::Result<()> {

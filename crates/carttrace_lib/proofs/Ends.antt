@@ -11,8 +11,8 @@ use Rattle.hex_text.specs.Hex.{value_of}
 use Rattle.cart.specs.declared.Cartridge.{Cartridge}
 use Rattle.cart.specs.Record.{fresh_cart}
 use Rattle.frames.specs.declared.Line.{Line}
-use Rattle.frames.specs.declared.FirstLine.{FirstLine}
-use Rattle.frames.specs.declared.FirstLine.TheVariants.{Fresh, NoKind}
+use Rattle.frames.specs.Frames.{FirstLine}
+use Rattle.std.specs.Prelude.{Some, None}
 use Rattle.frames.specs.Frames.{first_in, first_line, empty_line, pushed, pushed_all, line_of}
 use Rattle.frames.proofs.Lines.{first_said}
 use Rattle.carttrace_lib.specs.declared.Stage.{Stage}
@@ -29,7 +29,7 @@ no-kind-full l h =
     (λ e. let n = ltb-true 2 l.count (rw e at h) in rw (e, ne_eqb l.count 0 (omega (arith, n))))
     (λ e. rw e)
 
-no-kind-none : (l : Line) → no_kind l ≡ true → first_in l ≡ NoKind
+no-kind-none : (l : Line) → no_kind l ≡ true → first_in l ≡ None
 no-kind-none l h =
     cases l.good
     (λ e. let n = ltb-true 2 l.count (rw e at h) in rw (e, ne_eqb l.count 2 (omega (arith, n))))
@@ -45,7 +45,7 @@ no-kind-stays l c h =
     (λ e. rw e)
 
 -- the end of a bad line 1
-bad-ended : (l : Line) (cart : Cartridge) (m : Buffers) → no_kind l ≡ true → line_ended (session_with First l cart) m ≡ begun NoKind (session_with First l cart) m
+bad-ended : (l : Line) (cart : Cartridge) (m : Buffers) → no_kind l ≡ true → line_ended (session_with First l cart) m ≡ begun None (session_with First l cart) m
 unfolding line_ended
 bad-ended l cart m h = ap (λ (f : FirstLine). begun f (session_with First l cart) m) (no-kind-none l h)
 
@@ -79,8 +79,8 @@ stays-over (c ∷ input) l cart m = cases (eqb c 0x0a) (λ e. rw e (stays-over i
 
 bad-over : (f : FirstLine) (input : List ℕ) (s : Session) (m : Buffers) → is_no_kind f ≡ true → let h = begun f s m in over (took_all input h.session h.buffers).session ≡ true
 unfolding begun
-bad-over NoKind input s m h = stays-over input empty_line s.cart m
-bad-over (Fresh kind) input s m h = absurd (true≢false (sym h))
+bad-over None input s m h = stays-over input empty_line s.cart m
+bad-over (Some kind) input s m h = absurd (true≢false (sym h))
 
 at-bad-first : (input line : List ℕ) (cart : Cartridge) (m : Buffers) → bad_first line input ≡ true
     → over (took_all input (session_with First (pushed_all empty_line line) cart) m).session ≡ true

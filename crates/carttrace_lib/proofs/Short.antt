@@ -11,8 +11,8 @@ use Rattle.cart.specs.Record.{State, Outcome}
 use Rattle.cart.specs.Calls.{Call, questions, accepted, step, save_read, save_write, eeprom_begin_dma, eeprom_write, eeprom_read, chip_state, take_save_dirty}
 use Rattle.frames.specs.declared.Frame.{Frame}
 use Rattle.frames.specs.declared.Frame.TheVariants.{SaveRead, SaveWrite, EepromRead, EepromWrite, BeginDma, TakeFlag, ChipState, Bad}
-use Rattle.frames.specs.declared.FirstLine.{FirstLine}
-use Rattle.frames.specs.declared.FirstLine.TheVariants.{Fresh, NoKind}
+use Rattle.frames.specs.Frames.{FirstLine}
+use Rattle.std.specs.Prelude.{Some, None}
 use Rattle.frames.specs.Frames.{line_of, frame_in, first_in}
 use Rattle.frames.proofs.Printed.{length-line}
 use Rattle.carttrace_lib.specs.declared.Stage.{Stage}
@@ -48,8 +48,8 @@ play-short Bad s = line-short _ [] (omega arith)
 
 begun-short : (f : FirstLine) (s : Session) (m : Buffers) → length (begun f s m).text ≤ 39
 unfolding begun
-begun-short (Fresh kind) s m = line-short 0 [] (omega arith)
-begun-short NoKind s m = line-short 0xff [] (omega arith)
+begun-short (Some kind) s m = line-short 0 [] (omega arith)
+begun-short None s m = line-short 0xff [] (omega arith)
 
 staged-short : (g : Stage) (s : Session) (m : Buffers) → length (by_stage g (begun (first_in s.line) s m) (continued s m) (heard [] s m)).text ≤ 39
 unfolding continued

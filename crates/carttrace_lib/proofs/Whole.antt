@@ -26,8 +26,8 @@ use Rattle.counts.proofs.Retallied.{tallies-blank}
 use Rattle.frames.specs.declared.Line.{Line}
 use Rattle.frames.specs.declared.Frame.{Frame}
 use Rattle.frames.specs.declared.Frame.TheVariants.{SaveRead, SaveWrite, EepromRead, EepromWrite, BeginDma, TakeFlag, ChipState, Bad}
-use Rattle.frames.specs.declared.FirstLine.{FirstLine}
-use Rattle.frames.specs.declared.FirstLine.TheVariants.{Fresh, NoKind}
+use Rattle.frames.specs.Frames.{FirstLine}
+use Rattle.std.specs.Prelude.{Some, None}
 use Rattle.frames.specs.Frames.{frame, first_line, empty_line, pushed, pushed_all, line_of}
 use Rattle.frames.proofs.Lines.{frame-said, first_said}
 use Rattle.carttrace_lib.specs.declared.Stage.TheVariants.{First, Playing, Over}
@@ -155,15 +155,15 @@ playing (c ∷ input) line cart m k =
 first-end : (f : FirstLine) (input : List ℕ) (s : Session) (m : Buffers) → let h = begun f s m in
     h.text ++ printed_by input h.session h.buffers ≡ play_from f (lines_from [] input)
 unfolding begun pushed_all
-first-end NoKind input s m = rw (over-silent input empty_line s.cart m) (append-nil (line_of 0xff []))
-first-end (Fresh kind) input s m =
+first-end None input s m = rw (over-silent input empty_line s.cart m) (append-nil (line_of 0xff []))
+first-end (Some kind) input s m =
     let t = fresh_kind kind in
     ap (λ (r : List ℕ). line_of 0 [] ++ r) (from_front_lem input kind t m (right-kind kind) (playing input [] t.cart (to_front kind t m)))
 
 first-last : (f : FirstLine) (s : Session) (m : Buffers) → (begun f s m).text ≡ play_from f []
 unfolding begun play_all
-first-last NoKind s m = refl
-first-last (Fresh kind) s m = sym (append-nil (line_of 0 []))
+first-last None s m = refl
+first-last (Some kind) s m = sym (append-nil (line_of 0 []))
 
 starting : (input line : List ℕ) (cart : Cartridge) (m : Buffers) → printed_by input (session_with First (pushed_all empty_line line) cart) m ≡ play_lines (lines_from line input)
 unfolding printed_by took_all finished line_ended lines_from play_lines pushed_all

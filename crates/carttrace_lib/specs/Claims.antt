@@ -1,7 +1,7 @@
 -- What is claimed of `carttrace`, fed its input in pieces.
 use Rattle.std.specs.Prelude.{◌≡◌, Bool, true, false, cond, List, [], ◌∷◌, ◌++◌, ℕ, eqb}
-use Rattle.frames.specs.declared.FirstLine.{FirstLine}
-use Rattle.frames.specs.declared.FirstLine.TheVariants.{Fresh, NoKind}
+use Rattle.frames.specs.Frames.{FirstLine}
+use Rattle.std.specs.Prelude.{Some, None}
 use Rattle.frames.specs.Frames.{first_line, line_of}
 use Rattle.carttrace_lib.specs.declared.Session.{Session}
 use Rattle.carttrace_lib.specs.Trace.{carttrace}
@@ -41,8 +41,8 @@ printed_by input s m =
 
 -- whether line 1, after the characters that began it, has ended and is bad
 abbrev pub is_no_kind : FirstLine → Bool
-is_no_kind (Fresh kind) = false
-is_no_kind NoKind = true
+is_no_kind (Some kind) = false
+is_no_kind None = true
 
 unfoldable pub bad_first : List ℕ → List ℕ → Bool
 bad_first line [] = false

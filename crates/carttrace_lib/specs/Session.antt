@@ -2,15 +2,15 @@
 use Rattle.std.specs.Prelude.{Bool, true, false, cond, ◌&&◌, List, [], ◌∷◌, ◌++◌, ℕ, ltb, eqb, length, take, drop}
 use Rattle.lists.specs.Lists.{into}
 use Rattle.kind.specs.declared.SaveType.{SaveType}
-use Rattle.kind.specs.declared.SaveType.TheVariants.{None}
+use Rattle.kind.specs.declared.SaveType.TheVariants as save_type
 use Rattle.kind.specs.Kind.{memory_size, tally_count}
 use Rattle.part.specs.declared.Part.TheVariants.{Usual}
 use Rattle.cart.specs.declared.Cartridge.{Cartridge}
 use Rattle.cart.specs.Record.{State, fresh_cart}
 use Rattle.cart.specs.Replies.{tallied}
 use Rattle.frames.specs.declared.Line.{Line}
-use Rattle.frames.specs.declared.FirstLine.{FirstLine}
-use Rattle.frames.specs.declared.FirstLine.TheVariants.{Fresh, NoKind}
+use Rattle.frames.specs.Frames.{FirstLine}
+use Rattle.std.specs.Prelude.{Some, None}
 use Rattle.frames.specs.Frames.{empty_line, pushed, frame_in, first_in, line_of}
 use Rattle.carttrace_lib.specs.declared.Stage.{Stage}
 use Rattle.carttrace_lib.specs.declared.Stage.TheVariants.{First, Playing, Over}
@@ -22,7 +22,7 @@ abbrev pub session_with : Stage → Line → Cartridge → Session
 session_with stage line cart = record { stage = stage; line = line; cart = cart }
 
 unfoldable pub opened : Session
-opened = session_with First empty_line (fresh_cart 0 None Usual)
+opened = session_with First empty_line (fresh_cart 0 save_type.None Usual)
 
 -- the memory and the tallies of every kind are each at the front of one buffer
 pub record Buffers : Type 0 where
@@ -51,10 +51,10 @@ heard text session m = record { text = text; session = session; buffers = m }
 
 -- at the end of line 1, and of a later line
 unfoldable pub begun : FirstLine → Session → Buffers → Heard
-begun (Fresh kind) s m =
+begun (Some kind) s m =
     let t = fresh_kind kind in
     heard (line_of 0 []) (session_with Playing empty_line t.cart) (to_front kind t m)
-begun NoKind s m = heard (line_of 0xff []) (session_with Over empty_line s.cart) m
+begun None s m = heard (line_of 0xff []) (session_with Over empty_line s.cart) m
 
 unfoldable pub continued : Session → Buffers → Heard
 continued s m =

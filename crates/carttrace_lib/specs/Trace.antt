@@ -17,8 +17,8 @@ use Rattle.state_calls.specs.declared.StateAnswer.{StateAnswer}
 use Rattle.frames.specs.declared.Frame.{Frame}
 use Rattle.frames.specs.declared.Frame.TheVariants.{SaveRead, SaveWrite, EepromRead, EepromWrite}
 use Rattle.frames.specs.declared.Frame.TheVariants.{BeginDma, TakeFlag, ChipState, Bad}
-use Rattle.frames.specs.declared.FirstLine.{FirstLine}
-use Rattle.frames.specs.declared.FirstLine.TheVariants.{Fresh, NoKind}
+use Rattle.frames.specs.Frames.{FirstLine}
+use Rattle.std.specs.Prelude.{Some, None}
 use Rattle.frames.specs.Frames.{frame, first_line, line_of}
 use Rattle.carttrace_lib.specs.declared.Played.{Played}
 
@@ -61,8 +61,8 @@ fresh_kind kind = tallied (fresh_cart 192 kind Usual) (erased (memory_size kind)
 
 -- "and ends if that is line 1. No input, no output."
 abbrev pub play_from : FirstLine → List (List ℕ) → List ℕ
-play_from NoKind lines = line_of 0xff []
-play_from (Fresh kind) lines = line_of 0 [] ++ play_all lines (fresh_kind kind)
+play_from None lines = line_of 0xff []
+play_from (Some kind) lines = line_of 0 [] ++ play_all lines (fresh_kind kind)
 
 unfoldable pub play_lines : List (List ℕ) → List ℕ
 play_lines [] = []

@@ -9,7 +9,7 @@ ghost use Rattle.carttrace_lib.specs.Trace.{longest_line};
 use crate::one_frame::{play, print_status};
 use crate::{Session, Stage, Told};
 use cart::Cartridge;
-use frames::{FirstLine, Line};
+use frames::Line;
 use kind::SaveType;
 use part::Part;
 
@@ -44,7 +44,7 @@ pub fn opened() -> Session
 
 // At the end of line 1.
 fn begin(
-    first: FirstLine,
+    first: Option<SaveType>,
     session: Session,
     memory: &mut [u8],
     tallies: &mut [u16],
@@ -57,7 +57,7 @@ fn begin(
         ≡ told (begun first session (buffers memory.old tallies.old)) out.old }
 {
     match first {
-        FirstLine::Fresh(kind) => {
+        Some(kind) => {
             let n = kind::memory_size(kind);
             let k = kind::tally_count(kind);
             memory::blank(&mut memory[..n], &mut tallies[..k]);
@@ -70,7 +70,7 @@ fn begin(
                 print_status(out, 0),
             )
         }
-        FirstLine::NoKind => {
+        None => {
             let cart = session.cart;
             told_with(
                 session_with(Stage::Over, frames::empty_line(), cart),
@@ -157,12 +157,10 @@ pub fn feed(
 {
     let mut s = session;
     let mut len = 0;
-    let mut i = 0;
-    while i < input.len() {
-        let t = take_in(s, input[i], memory, tallies, &mut out[len..]);
+    for c in input {
+        let t = take_in(s, *c, memory, tallies, &mut out[len..]);
         s = t.session;
         len += t.len;
-        i += 1;
     }
     told_with(s, len)
 }
@@ -186,20 +184,14 @@ pub fn finish(session: Session, memory: &mut [u8], tallies: &mut [u16], out: &mu
 fn is_empty(l: Line) -> bool
     ensures { result ≡ is_empty l }
 {
-    if !l.good {
-        return false;
-    }
-    l.count == 0
+    l.good && l.count == 0
 }
 
 // A line so far that can become no kind.
 fn no_kind(l: Line) -> bool
     ensures { result ≡ no_kind l }
 {
-    if !l.good {
-        return true;
-    }
-    2 < l.count
+    !l.good || 2 < l.count
 }
 
 // Whether line 1 is bad, so that nothing that follows changes what is printed. A caller then reads no further.

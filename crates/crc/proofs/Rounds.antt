@@ -1,17 +1,15 @@
 -- A round: four bytes of each lane, added as one number and taken out by four bytes of bits. Assumes nothing.
 use mathlib.Core.Path.{◌≡◌, refl, sym, ap, ◌∙◌}
 use mathlib.Core.List.{List, [], ◌∷◌}
-use Prim.Native.Nat.{ℕ, ◌+◌, ◌*◌, ◌%◌, ◌^◌, ◌<◌, ◌≤◌}
-use native.Mathlib.Nat.{zero-add}
+use Prim.Native.Nat.{ℕ, zero, suc, ◌+◌, ◌*◌, ◌^◌, ◌-◌, ◌<◌, ◌≤◌}
 use native.Mathlib.Omega.{arith}
 use lib.Bits.{bit_xor, xor_comm, xor_shifted}
-use lib.ListN.{length, take, drop, get_or}
+use lib.ListN.{length, take, drop, get_or, replicate}
 use lib.Seq.{drop-drop}
 use Rattle.lists.specs.Lists.{fold}
 use Rattle.lists.proofs.Parts.{spells}
 use Rattle.crc.specs.Crc.{crc_bits, crc_byte}
-use Rattle.crc.specs.declared.lanes.Registers.{Registers}
-use Rattle.crc.specs.Lanes.{lane, lane_ends, started, word_at, words_in, bytes_out}
+use Rattle.crc.specs.Lanes.{each, lane, lane_ends, word_at, words_in, bytes_out}
 use Rattle.crc.proofs.Folds.{fold-take}
 use Rattle.crc.proofs.Polynomial.{xor_assoc, bits-xor, bits-zero}
 
@@ -52,43 +50,41 @@ lane-on x s a i b h =
     ∙ ap (λ (l : List ℕ). fold crc_byte v l) (sym (ap (take 4) (drop-drop i a s) ∙ t))
     ∙ fold-take crc_byte x (drop a s) i 4
 
-pub four-on : (i : ℕ) → i % 4 ≡ 0 → (i + 4) % 4 ≡ 0
-four-on i h = omega arith
+-- the register of lane k
+pub each-at : (f : ℕ → ℕ → ℕ) (v : List ℕ) (a k : ℕ) → k < length v → get_or (each f a v) k 0 ≡ f (a + 4096 * k) (get_or v k 0)
+each-at f [] a k h = absurd (omega arith)
+each-at f (c ∷ v) a zero h = let e : a + 4096 * 0 ≡ a = omega arith in rw e
+each-at f (c ∷ v) a (suc k) h =
+    let e : a + 4096 + 4096 * k ≡ a + 4096 * suc k = omega arith in
+    each-at f v (a + 4096) k (omega arith) ∙ rw e
 
-pub four-fits : (i : ℕ) → i % 4 ≡ 0 → i < 4096 → i + 4 ≤ 4096
-four-fits i h k = omega arith
+-- the bytes of a round that are still to leave
+unfoldable pub leaves : ℕ → List ℕ → List ℕ
+leaves zero v = v
+leaves (suc n) v = leaves n (bytes_out v)
 
--- four bytes of each lane, as they are read
-pub words-read : (s : List ℕ) (i : ℕ) (v : Registers) {w₀ w₁ w₂ w₃ w₄ w₅ w₆ w₇ : ℕ}
-    → w₀ ≡ word_at s i → w₁ ≡ word_at s (4096 + i) → w₂ ≡ word_at s (8192 + i) → w₃ ≡ word_at s (12288 + i)
-    → w₄ ≡ word_at s (16384 + i) → w₅ ≡ word_at s (20480 + i) → w₆ ≡ word_at s (24576 + i) → w₇ ≡ word_at s (28672 + i)
-    → record {
-      r0 = bit_xor v.r0 w₀;
-      r1 = bit_xor v.r1 w₁;
-      r2 = bit_xor v.r2 w₂;
-      r3 = bit_xor v.r3 w₃;
-      r4 = bit_xor v.r4 w₄;
-      r5 = bit_xor v.r5 w₅;
-      r6 = bit_xor v.r6 w₆;
-      r7 = bit_xor v.r7 w₇;
-    } ≡ words_in s i v
-unfolding words_in
-words-read s i v e₀ e₁ e₂ e₃ e₄ e₅ e₆ e₇ = rw (e₀, e₁, e₂, e₃, e₄, e₅, e₆, e₇, zero-add)
+pub leave-one : (k : ℕ) (v : List ℕ) → k < 4 → leaves (4 - (k + 1)) (bytes_out v) ≡ leaves (4 - k) v
+unfolding leaves
+leave-one k v h = let e : 4 - k ≡ suc (4 - (k + 1)) = omega arith in rw e
 
-pub none_yet : (c : ℕ) (s : List ℕ) → started c ≡ lane_ends c s 0
+pub all_left : (k : ℕ) (v : List ℕ) → k ≡ 4 → leaves (4 - k) v ≡ v
+unfolding leaves
+all_left k v e = rw e
+
+pub none_yet : (s : List ℕ) → replicate 8 0 ≡ lane_ends s 0
 unfolding lane_ends lane fold
-none_yet c s = refl
+none_yet s = refl
 
 room : (a i : ℕ) (s : List ℕ) → a ≤ 28672 → length s ≡ 32768 → i + 4 ≤ 4096 → a + i + 4 ≤ length s
 room a i s h l k = omega arith
 
 -- all lanes by four bytes more
-pub round : (c : ℕ) (s : List ℕ) (i : ℕ) → ((j : ℕ) → get_or s j 0 < 256) → length s ≡ 32768 → i + 4 ≤ 4096
-    → bytes_out (bytes_out (bytes_out (bytes_out (words_in s i (lane_ends c s i))))) ≡ lane_ends c s (i + 4)
-unfolding bytes_out words_in lane_ends
-round c s i b l h =
+pub round : (s : List ℕ) (i : ℕ) → ((j : ℕ) → get_or s j 0 < 256) → length s ≡ 32768 → i + 4 ≤ 4096
+    → leaves 4 (words_in s i (lane_ends s i)) ≡ lane_ends s (i + 4)
+unfolding leaves lane_ends
+round s i b l h =
     rw (
-      lane-on c s 0 i b (room 0 i s (omega arith) l h),
+      lane-on 0 s 0 i b (room 0 i s (omega arith) l h),
       lane-on 0 s 4096 i b (room 4096 i s (omega arith) l h),
       lane-on 0 s 8192 i b (room 8192 i s (omega arith) l h),
       lane-on 0 s 12288 i b (room 12288 i s (omega arith) l h),

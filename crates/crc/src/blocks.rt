@@ -7,23 +7,20 @@ ghost use Rattle.crc.specs.Operator.{lane_operator};
 use crate::lanes::lane_ends;
 use crate::operator::join;
 use crate::table::byte_out;
-use crate::words::wide;
 
 // The lanes of a block, joined one after the other.
-fn over_block(table: &[u32; 256], op: &[u32; 32], c: u32, s: &[u8]) -> u32
+fn over_block(table: &[u32; 256], op: &[u32; 32], start: u32, s: &[u8]) -> u32
     requires table_value { is_table 0 table.now ≡ true }
     requires op_value { op.now ≡ lane_operator }
     requires s_len { length s.now ≡ 32768 }
-    ensures { result ≡ fold crc_byte c s.now }
+    ensures { result ≡ fold crc_byte start s.now }
 {
-    let v = lane_ends(table, c, s);
-    let a1 = join(op, v.r0, v.r1);
-    let a2 = join(op, a1, v.r2);
-    let a3 = join(op, a2, v.r3);
-    let a4 = join(op, a3, v.r4);
-    let a5 = join(op, a4, v.r5);
-    let a6 = join(op, a5, v.r6);
-    join(op, a6, v.r7)
+    let mut c = start;
+    let ends = lane_ends(table, s);
+    for end in &ends {
+        c = join(op, c, *end);
+    }
+    c
 }
 
 pub fn over_bytes(table: &[u32; 256], op: &[u32; 32], start: u32, s: &[u8]) -> u32
@@ -31,16 +28,14 @@ pub fn over_bytes(table: &[u32; 256], op: &[u32; 32], start: u32, s: &[u8]) -> u
     requires op_value { op.now ≡ lane_operator }
     ensures { result ≡ fold crc_byte start s.now }
 {
+    let blocks = s.chunks_exact(32768);
+    let rest = blocks.remainder();
     let mut c = start;
-    let mut i: usize = 0;
-    while 32768 <= s.len() - i {
-        let end = i + 32768;
-        c = over_block(table, op, c, &s[i..end]);
-        i = end;
+    for block in blocks {
+        c = over_block(table, op, c, block);
     }
-    while i < s.len() {
-        c = byte_out(table, c ^ wide(s[i]));
-        i += 1;
+    for byte in rest {
+        c = byte_out(table, c ^ u32::from(*byte));
     }
     c
 }

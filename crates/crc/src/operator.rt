@@ -24,15 +24,13 @@ fn pick(op: &[u32; 32], c: u32) -> u32
     requires { length op.now ≡ 32 }
     ensures { result ≡ picked op.now c }
 {
-    let mut r: u32 = 0;
-    let mut v = c;
-    let mut i: usize = 0;
-    while i < 32 {
-        r = r ^ if_one(op[i], v);
-        v = v >> 1;
-        i += 1;
+    let mut sum = 0;
+    let mut digits = c;
+    for number in op {
+        sum ^= if_one(*number, digits);
+        digits >>= 1;
     }
-    r
+    sum
 }
 
 // The register `a` after a lane whose own bytes leave `b`.

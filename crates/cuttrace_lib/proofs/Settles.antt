@@ -10,8 +10,8 @@ use lib.ListN.{length, take, drop, length-append}
 use lib.Seq.{length-take-le}
 use borrow.Author.Tests.{ltb-true, ltb-false, lt-ltb, ne_eqb}
 use Rattle.lists.proofs.Bools.{cases}
-use Rattle.frames.specs.declared.FirstLine.{FirstLine}
-use Rattle.frames.specs.declared.FirstLine.TheVariants.{Fresh, NoKind}
+use Rattle.frames.specs.Frames.{FirstLine}
+use Rattle.std.specs.Prelude.{Some, None}
 use Rattle.frames.specs.Frames.{first_of, numbered, number_from, first_line, line_of}
 use Rattle.carttrace_lib.specs.Trace.{lines_from}
 use Rattle.carttrace_lib.specs.Claims.{is_no_kind, bad_first}
@@ -39,11 +39,11 @@ same_line (c ∷ text) more h =
     cases (eqb c 0x0a) (λ e. rw e) (λ e. rw e (ap (λ (l : List ℕ). c ∷ l) (same_line text more (omega (arith, rw e at h)))))
 
 -- a kind has two characters
-numbered-none : (n : ℕ) (x : Option ℕ) → (n ≡ 2 → ⊥) → numbered first_of NoKind n x ≡ NoKind
+numbered-none : (n : ℕ) (x : Option ℕ) → (n ≡ 2 → ⊥) → numbered first_of None n x ≡ None
 numbered-none n none h = refl
 numbered-none n (some x) h = rw (ne_eqb n 2 h)
 
-no_kind : (line : List ℕ) → (length line ≡ 2 → ⊥) → first_line line ≡ NoKind
+no_kind : (line : List ℕ) → (length line ≡ 2 → ⊥) → first_line line ≡ None
 unfolding first_line
 no_kind line h = numbered-none (length line) (number_from 0 line) h
 
@@ -59,18 +59,18 @@ by_first : (text memory scratch answers : List ℕ) → 0 < length text
 unfolding cuttrace play_lines first-of
 by_first text memory scratch answers h = rw (first-line [] text (omega (arith, h)))
 
-bad-first : (text memory scratch answers : List ℕ) → 0 < length text → first-of text ≡ NoKind → cuttrace text memory scratch answers ≡ line_of 0xff []
+bad-first : (text memory scratch answers : List ℕ) → 0 < length text → first-of text ≡ None → cuttrace text memory scratch answers ≡ line_of 0xff []
 unfolding play_from
 bad-first text memory scratch answers h e = by_first text memory scratch answers h ∙ rw e
 
 long-first : (f : FirstLine) (text memory scratch answers : List ℕ) → longest_trace < length text → first-of text ≡ f → is_no_kind f ≡ false → cuttrace text memory scratch answers ≡ line_of 0xfd []
-long-first NoKind text memory scratch answers h e k = absurd (true≢false k)
-long-first (Fresh kind) text memory scratch answers h e k =
+long-first None text memory scratch answers h e k = absurd (true≢false k)
+long-first (Some kind) text memory scratch answers h e k =
     by_first text memory scratch answers (omega (arith, h)) ∙ rw e (too_long kind (length text) _ memory scratch answers h)
 
-none_first : (f : FirstLine) → is_no_kind f ≡ true → f ≡ NoKind
-none_first NoKind k = refl
-none_first (Fresh kind) k = absurd (true≢false (sym k))
+none_first : (f : FirstLine) → is_no_kind f ≡ true → f ≡ None
+none_first None k = refl
+none_first (Some kind) k = absurd (true≢false (sym k))
 
 module _ (text more memory scratch answers : List ℕ) where
   abbrev n : ℕ
@@ -80,14 +80,14 @@ module _ (text more memory scratch answers : List ℕ) where
   Same = cuttrace (text ++ more) memory scratch answers ≡ cuttrace text memory scratch answers
 
   -- line 1 is bad, and has ended
-  ended_same : first-of text ≡ NoKind → n < length text → Same
+  ended_same : first-of text ≡ None → n < length text → Same
   unfolding first-of
   ended_same e h =
       bad-first (text ++ more) memory scratch answers (simp length-append (omega (arith, h))) (ap first_line (same_line text more h) ∙ e)
       ∙ sym (bad-first text memory scratch answers (omega (arith, h)) e)
 
   -- or is too long for a kind
-  longer-same : first-of text ≡ NoKind → 2 < n → Same
+  longer-same : first-of text ≡ None → 2 < n → Same
   unfolding first-of
   longer-same e h =
       let w = line-within text in

@@ -1,38 +1,36 @@
 -- The lines of a text, one after the other. Assumes nothing.
 use mathlib.Core.Path.{◌≡◌, refl, sym, ap, ◌∙◌}
-use mathlib.Core.Bool.{true, false}
+use mathlib.Core.Logic.{◌≢◌}
 use mathlib.Core.List.{List, [], ◌∷◌, ◌++◌, append-nil, append_assoc}
 use Prim.Native.Nat.{ℕ, zero, suc, ◌+◌, ◌-◌, ◌≤◌, ◌<◌}
 use native.Mathlib.Numerals.{add-one}
 use native.Mathlib.Omega.{arith}
 use lib.Dec.{eqb}
 use lib.ListN.{length, get_or, take, drop, length-append, length-drop}
-use lib.Seq.{drop-cons, drop-drop, drop-length}
+use lib.Seq.{drop-cons, drop-drop}
 use borrow.Author.Tests.{eq-eqb, ne_eqb}
 use Rattle.lists.proofs.Bools.{cases}
 use Rattle.lists.proofs.Parts.{rest}
 use Rattle.frames.specs.declared.Line.{Line}
 use Rattle.frames.specs.Frames.{pushed, pushed_all}
 use Rattle.carttrace_lib.specs.Trace.{lines_from}
-use Rattle.cuttrace_lib.specs.Lines.{line_length}
+use Rattle.cuttrace_lib.specs.Lines.{IsLineEnd, line_length}
 
--- the loop that looks for the line feed
-pub length_more : (text : List ℕ) (i c : ℕ) → i < length text → c ≡ get_or text i 0 → (c ≡ 0x0a → ⊥) → line_length text ≡ i + line_length (drop i text)
-    → line_length text ≡ i + 1 + line_length (drop (i + 1) text)
+-- where the first line feed is, or that there is none
+pub length_none : (text : List ℕ) → ((k : ℕ) → k < length text → get_or text k 0 ≢ 0x0a) → length text ≡ line_length text
 unfolding line_length
-length_more text i c h e n w =
-    let t : eqb (get_or text i 0) 0x0a ≡ false = ne_eqb (get_or text i 0) 0x0a (λ q. n (e ∙ q)) in
-    w ∙ rw (drop-cons text i 0 h, t, add-one i) (omega arith)
+length_none [] h = refl
+length_none (c ∷ text) h =
+    let t = length_none text (λ k l. h (suc k) (omega arith)) in
+    rw (ne_eqb c 0x0a (h 0 (omega arith)), ← t) refl
 
-pub length_found : (text : List ℕ) (i c : ℕ) → i < length text → c ≡ get_or text i 0 → c ≡ 0x0a → line_length text ≡ i + line_length (drop i text) → i ≡ line_length text
+pub length_found : (text : List ℕ) (i : ℕ) → IsLineEnd text i → i ≡ line_length text
 unfolding line_length
-length_found text i c h e q w =
-    let t : eqb (get_or text i 0) 0x0a ≡ true = eq-eqb (get_or text i 0) 0x0a (sym e ∙ q) in
-    sym (w ∙ rw (drop-cons text i 0 h, t) (omega arith))
-
-pub length-end : (text : List ℕ) (i : ℕ) → i ≡ length text → line_length text ≡ i + line_length (drop i text) → i ≡ line_length text
-unfolding line_length
-length-end text i h w = sym (w ∙ rw (h, drop-length text) (omega arith))
+length_found [] i h = absurd (omega (arith, h.0))
+length_found (c ∷ text) zero h = rw (eq-eqb c 0x0a h.1) refl
+length_found (c ∷ text) (suc i) h =
+    let t = length_found text i (omega (arith, h.0), h.1, λ k l. h.2 (suc k) (omega arith)) in
+    rw (ne_eqb c 0x0a (h.2 0 (omega arith)), ← t) refl
 
 -- the first line of a text, after the characters that began it
 pub first-line : (line text : List ℕ) → 0 < length line + length text

@@ -16,8 +16,8 @@ use Rattle.kind.specs.declared.SaveType.{SaveType}
 use Rattle.kind.specs.Kind.{memory_size}
 use Rattle.part.specs.declared.Part.TheVariants.{Usual}
 use Rattle.part.specs.Part.{part_number}
-use Rattle.frames.specs.declared.FirstLine.{FirstLine}
-use Rattle.frames.specs.declared.FirstLine.TheVariants.{Fresh, NoKind}
+use Rattle.frames.specs.Frames.{FirstLine}
+use Rattle.std.specs.Prelude.{Some, None}
 use Rattle.frames.specs.Frames.{first_line, line_of}
 use Rattle.carttrace_lib.specs.Trace.{lines_from}
 use Rattle.carttrace_lib.specs.Claims.{is_no_kind}
@@ -105,11 +105,11 @@ trace-first text memory scratch answers end from first h e d f =
     ∙ ap (λ (x : FirstLine). play_from x (length text) (lines_from [] (take (length text - from) (drop from text))) memory scratch answers) (sym f)
 
 -- a trace that is too long, and one that is not
-pub too_long : (kind : SaveType) (n : ℕ) (lines : List (List ℕ)) (memory scratch answers : List ℕ) → longest_trace < n → play_from (Fresh kind) n lines memory scratch answers ≡ line_of 0xfd []
+pub too_long : (kind : SaveType) (n : ℕ) (lines : List (List ℕ)) (memory scratch answers : List ℕ) → longest_trace < n → play_from (Some kind) n lines memory scratch answers ≡ line_of 0xfd []
 unfolding play_from
 too_long kind n lines memory scratch answers h = rw (lt-ltb longest_trace n h)
 
-pub not-long : (kind : SaveType) (n : ℕ) (lines : List (List ℕ)) (memory scratch answers : List ℕ) → n ≤ longest_trace → play_from (Fresh kind) n lines memory scratch answers ≡ played kind lines memory scratch answers
+pub not-long : (kind : SaveType) (n : ℕ) (lines : List (List ℕ)) (memory scratch answers : List ℕ) → n ≤ longest_trace → play_from (Some kind) n lines memory scratch answers ≡ played kind lines memory scratch answers
 unfolding play_from
 not-long kind n lines memory scratch answers h = rw (le-ltb longest_trace n h)
 
@@ -119,8 +119,8 @@ pub settled-said : (text : List ℕ) (end : ℕ) (first : FirstLine) → end ≡
 unfolding settled
 settled-said text end first e f = rw (f, e)
 
-pub bad-ended : (text : List ℕ) (end : ℕ) → end ≡ line_length text → NoKind ≡ first_line (take end text) → end < length text → ltb end (length text) ≡ settled text
-bad-ended text end e f h = let l = lt-ltb end (length text) h in rw l (sym (settled-said text end NoKind e f ∙ rw l))
+pub bad-ended : (text : List ℕ) (end : ℕ) → end ≡ line_length text → None ≡ first_line (take end text) → end < length text → ltb end (length text) ≡ settled text
+bad-ended text end e f h = let l = lt-ltb end (length text) h in rw l (sym (settled-said text end None e f ∙ rw l))
 
-pub bad-unended : (text : List ℕ) (end : ℕ) → end ≡ line_length text → NoKind ≡ first_line (take end text) → length text ≤ end → ltb 2 end ≡ settled text
-bad-unended text end e f h = sym (settled-said text end NoKind e f ∙ rw (le-ltb end (length text) h))
+pub bad-unended : (text : List ℕ) (end : ℕ) → end ≡ line_length text → None ≡ first_line (take end text) → length text ≤ end → ltb 2 end ≡ settled text
+bad-unended text end e f h = sym (settled-said text end None e f ∙ rw (le-ltb end (length text) h))

@@ -22,10 +22,6 @@ joined-also : (xs : List ℕ) (b : ℕ) (o : Option (List ℕ)) → joined xs (a
 joined-also xs b none = refl
 joined-also xs b (some ys) = ap some (sym (append_assoc xs (b ∷ []) ys))
 
-pub joined-none : (o : Option (List ℕ)) → o ≡ joined [] o
-joined-none none = refl
-joined-none (some ys) = refl
-
 -- an odd number of digits
 pub unhex-odd : (l : List ℕ) (k : ℕ) → length l ≡ suc (2 * k) → unhex l ≡ none
 unfolding unhex

@@ -4,8 +4,8 @@ use Rattle.kind.specs.declared.SaveType.{SaveType}
 use Rattle.kind.specs.Kind.{memory_size}
 use Rattle.part.specs.declared.Part.TheVariants.{Usual}
 use Rattle.part.specs.Part.{part_number}
-use Rattle.frames.specs.declared.FirstLine.{FirstLine}
-use Rattle.frames.specs.declared.FirstLine.TheVariants.{Fresh, NoKind}
+use Rattle.frames.specs.Frames.{FirstLine}
+use Rattle.std.specs.Prelude.{Some, None}
 use Rattle.frames.specs.Frames.{first_line, line_of}
 use Rattle.carttrace_lib.specs.Trace.{lines_from}
 use Rattle.carttrace_lib.specs.Claims.{is_no_kind}
@@ -35,8 +35,8 @@ longest_trace = 500000
 
 -- by line 1, in a trace of n characters
 unfoldable pub play_from : FirstLine → ℕ → List (List ℕ) → List ℕ → List ℕ → List ℕ → List ℕ
-play_from NoKind n lines memory scratch answers = line_of 0xff []
-play_from (Fresh kind) n lines memory scratch answers =
+play_from None n lines memory scratch answers = line_of 0xff []
+play_from (Some kind) n lines memory scratch answers =
     cond (ltb longest_trace n) (line_of 0xfd []) (played kind lines memory scratch answers)
 
 unfoldable pub play_lines : ℕ → List (List ℕ) → List ℕ → List ℕ → List ℕ → List ℕ

@@ -1,5 +1,5 @@
 -- The lines of a trace as a list of calls. A line is the upper-case hexadecimal digits of exactly one item.
-use Rattle.std.specs.Prelude.{cond, ◌&&◌, List, [], ◌∷◌, ◌++◌, ℕ, suc, ◌+◌, ◌*◌, ltb, eqb, length}
+use Rattle.std.specs.Prelude.{cond, ◌&&◌, List, [], ◌∷◌, ◌++◌, ℕ, suc, ◌+◌, ◌*◌, ◌<◌, ◌≡◌, ◌≢◌, ltb, eqb, length, slice_index}
 use Rattle.std.proofs.Math.Option.{Option, none, some}
 use Rattle.hex_text.specs.Hex.{value_of}
 use Rattle.call_list.specs.declared.Item.{Item}
@@ -44,6 +44,10 @@ code_length i = cond (is_item i) (item_length i) 0
 unfoldable pub list_of : List (List ℕ) → List ℕ
 list_of [] = []
 list_of (line ∷ lines) = line_code line ++ list_of lines
+
+-- the first line feed is at place i
+abbrev pub IsLineEnd : List ℕ → ℕ → Type 0
+IsLineEnd text i = (i < length text) × (slice_index text i ≡ 0x0a) × ((k : ℕ) → k < i → slice_index text k ≢ 0x0a)
 
 -- how many characters are before a text's first line feed, or its end
 unfoldable pub line_length : List ℕ → ℕ

@@ -1,21 +1,14 @@
 // The bytes of a line of digits.
-ghost use Rattle.std.specs.Prelude.{◌≡◌, cond, ◌*◌, ◌/◌, ◌≤◌, length, take};
+ghost use Rattle.std.specs.Prelude.{◌≡◌, cond, ◌*◌, ◌/◌, ◌<◌, ◌≤◌, length, take, MatchOption};
 ghost use Rattle.std.proofs.Math.Option.{none, some};
 ghost use Rattle.cuttrace_lib.specs.Lines.{byte_of, unhex};
 
-// The byte of two digits; 256 if one of the characters is not a digit.
-fn byte_of(a: u8, b: u8) -> u16
-    ensures { result ≡ byte_of a b }
+// The byte of two digits, if both characters are digits.
+#[tactic(auto, using(lists::proofs::Bools::tests), unfolding(crate::specs::Lines::byte_of))]
+fn byte_of(a: u8, b: u8) -> Option<u8>
+    ensures { MatchOption result (byte_of a b ≡ 256) (λ v. (v ≡ byte_of a b) × (v < 256)) }
 {
-    let x = hex_text::value_of(a);
-    if 16 <= x {
-        return 256;
-    }
-    let y = hex_text::value_of(b);
-    if 16 <= y {
-        return 256;
-    }
-    x as u16 * 16 + y as u16
+    Some(hex_text::digit(a)? * 16 + hex_text::digit(b)?)
 }
 
 // Whether a line is digits, two for each byte; its bytes are then at the front of the room.
@@ -27,15 +20,11 @@ pub fn put_bytes(line: &[u8], room: &mut [u8]) -> bool
     if line.len() % 2 != 0 {
         return false;
     }
-    let n = line.len() / 2;
-    let mut i = 0;
-    while i < n {
-        let b = byte_of(line[2 * i], line[2 * i + 1]);
-        if 255 < b {
+    for i in 0..line.len() / 2 {
+        let Some(byte) = byte_of(line[2 * i], line[2 * i + 1]) else {
             return false;
-        }
-        room[i] = b as u8;
-        i += 1;
+        };
+        room[i] = byte;
     }
     true
 }

@@ -1,24 +1,27 @@
 // The lines of a text as a list of calls.
-ghost use Rattle.std.specs.Prelude.{◌≡◌, [], ◌+◌, ◌*◌, ◌≤◌, length, take};
+ghost use Rattle.std.specs.Prelude.{◌≡◌, [], ◌+◌, ◌*◌, ◌≤◌, ◌≢◌, length, take, slice_index, EachIndex, MatchOption};
 ghost use Rattle.carttrace_lib.specs.Trace.{lines_from};
-ghost use Rattle.cuttrace_lib.specs.Lines.{line_length, line_item, line_code, code_length, list_of};
+ghost use Rattle.cuttrace_lib.specs.Lines.{IsLineEnd, line_length, line_item, line_code, code_length, list_of};
 ghost use Rattle.cuttrace_lib.specs.Cuttrace.{longest_trace};
 
 use crate::digits::put_bytes;
 use call_list::Item;
 
+// The place of the first line feed.
+fn line_feed(text: &[u8]) -> Option<usize>
+    ensures { MatchOption result (EachIndex text.now (λ k. slice_index text.now k ≢ 0x0A)) (IsLineEnd text.now) }
+{
+    text.iter().position(|c| *c == 0x0A)
+}
+
 // How many characters are before the line feed, or the text's end.
 pub fn line_length(text: &[u8]) -> usize
     ensures { (result ≡ line_length text.now) × (result ≤ length text.now) }
 {
-    let mut i = 0;
-    while i < text.len() {
-        if text[i] == 0x0A {
-            return i;
-        }
-        i += 1;
+    match line_feed(text) {
+        Some(end) => end,
+        None => text.len(),
     }
-    i
 }
 
 // The item of a line; its bytes are then at the front of the room.

@@ -1,5 +1,5 @@
 // Answers, printed as lines.
-ghost use Rattle.std.specs.Prelude.{◌≡◌, [], ◌+◌, ◌*◌, ◌≤◌, min, length};
+ghost use Rattle.std.specs.Prelude.{◌≡◌, [], ◌+◌, ◌*◌, ◌≤◌, length};
 ghost use Rattle.carttrace_lib.specs.Trace.{lines_from};
 ghost use Rattle.chip_record.specs.States.{state_size};
 ghost use Rattle.call_list.specs.Items.{item_room, ending_room};
@@ -47,15 +47,6 @@ fn print_item(item: Item, answer: &[u8], out: &mut [u8]) -> usize
     }
 }
 
-fn least(a: usize, b: usize) -> usize
-    ensures { result ≡ min a b }
-{
-    if a < b {
-        return a;
-    }
-    b
-}
-
 // The file after a status and its length.
 fn print_file(answer: &[u8], out: &mut [u8]) -> usize
     requires in_bounds { 5 ≤ length answer.now }
@@ -66,7 +57,7 @@ fn print_file(answer: &[u8], out: &mut [u8]) -> usize
         return frames::print_line(out, answer[0], b"");
     }
     let n = lists::low32(answer[4], answer[3], answer[2], answer[1]) as usize;
-    let end = 5 + least(n, answer.len() - 5);
+    let end = 5 + n.min(answer.len() - 5);
     frames::print_line(out, 0, &answer[5..end])
 }
 

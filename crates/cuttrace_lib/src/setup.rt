@@ -5,17 +5,14 @@ ghost use Rattle.frames.specs.Frames.{first_line};
 ghost use Rattle.cuttrace_lib.specs.Printing.{Shows};
 ghost use Rattle.cuttrace_lib.specs.Setup.{image_of, prelude, prelude_room};
 
-use frames::FirstLine;
 use kind::SaveType;
 
-pub fn first_kind(line: &[u8]) -> FirstLine
+pub fn first_kind(line: &[u8]) -> Option<SaveType>
     ensures { result ≡ first_line line.now }
 {
     let mut l = frames::empty_line();
-    let mut i = 0;
-    while i < line.len() {
-        l = frames::push(l, line[i]);
-        i += 1;
+    for c in line {
+        l = frames::push(l, *c);
     }
     frames::first_in(l)
 }

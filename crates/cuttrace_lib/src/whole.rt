@@ -12,7 +12,6 @@ ghost use Rattle.cuttrace_lib.specs.Cuttrace.{settled};
 use crate::lines::{collect, line_length};
 use crate::printing::print_lines;
 use crate::setup::{first_kind, prelude_room, put_image, put_prelude};
-use frames::FirstLine;
 use kind::SaveType;
 
 // A trace of more characters is refused.
@@ -126,13 +125,13 @@ pub fn run_trace(
     let end = line_length(text);
     let from = after_line(end, text);
     match first_kind(&text[..end]) {
-        FirstLine::Fresh(kind) => {
+        Some(kind) => {
             if LONGEST_TRACE < text.len() {
                 return frames::print_line(out, 0xFD, b"");
             }
             play_lines(kind, &text[from..], list, memory, scratch, answers, out)
         }
-        FirstLine::NoKind => frames::print_line(out, 0xFF, b""),
+        None => frames::print_line(out, 0xFF, b""),
     }
 }
 
@@ -142,7 +141,7 @@ pub fn settled(text: &[u8]) -> bool
 {
     let end = line_length(text);
     match first_kind(&text[..end]) {
-        FirstLine::Fresh(_) => LONGEST_TRACE < text.len(),
-        FirstLine::NoKind => end < text.len() || 2 < end,
+        Some(_) => LONGEST_TRACE < text.len(),
+        None => end < text.len() || 2 < end,
     }
 }

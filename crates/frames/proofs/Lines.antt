@@ -13,7 +13,7 @@ use Rattle.lists.proofs.Bools.{cases}
 use Rattle.hex_text.specs.Hex.{value_of}
 use Rattle.frames.specs.declared.Line.{Line}
 use Rattle.frames.specs.declared.Frame.TheVariants.{Bad}
-use Rattle.frames.specs.declared.FirstLine.TheVariants.{NoKind}
+use Rattle.std.specs.Prelude.{None}
 use Rattle.frames.specs.Frames.{number_from, frame_of, frame, first_of, first_line, numbered, line_with, empty_line, pushed, pushed_all, read_in, frame_in, first_in}
 
 -- a line that is no frame stays so
@@ -84,4 +84,4 @@ frame-said text = whole-said frame_of Bad frame-long text
 
 pub first_said : (text : List ℕ) → first_in (pushed_all empty_line text) ≡ first_line text
 unfolding first_line
-first_said text = whole-said first_of NoKind (λ n x h. rw (ne_eqb n 2 (omega (arith, h)))) text
+first_said text = whole-said first_of None (λ n x h. rw (ne_eqb n 2 (omega (arith, h)))) text

@@ -2,12 +2,12 @@
 use Rattle.std.specs.Prelude.{Bool, true, false, cond, ◌&&◌, List, [], ◌∷◌, ◌++◌, ℕ, ◌+◌, ◌*◌, ◌/◌, ◌%◌, ◌^◌, ltb, eqb, length}
 use Rattle.std.proofs.Math.Option.{Option, none, some}
 use Rattle.hex_text.specs.Hex.{value_of, hex}
+use Rattle.std.specs.Prelude as std
+use Rattle.kind.specs.declared.SaveType.{SaveType}
 use Rattle.kind.specs.declared.SaveType.TheVariants.{None, Sram, Flash64, Eeprom512, Eeprom8k}
 use Rattle.frames.specs.declared.Frame.{Frame}
 use Rattle.frames.specs.declared.Frame.TheVariants.{SaveRead, SaveWrite, EepromRead, EepromWrite}
 use Rattle.frames.specs.declared.Frame.TheVariants.{BeginDma, TakeFlag, ChipState, Bad}
-use Rattle.frames.specs.declared.FirstLine.{FirstLine}
-use Rattle.frames.specs.declared.FirstLine.TheVariants.{Fresh, NoKind}
 use Rattle.frames.specs.declared.Line.{Line}
 
 -- "hexadecimal in upper case": the number that a line of digits is, or none
@@ -37,15 +37,19 @@ frame_of n x =
     cond (eqb n 10) (ten_digits x)
     (cond (eqb n 12) (twelve_digits x) (cond (eqb n 2) (two_digits x) (cond (eqb n 6) (six_digits x) Bad)))
 
+-- what line 1 is: a kind, or none
+abbrev pub FirstLine : Type 0
+FirstLine = std.Option SaveType
+
 -- "Line 1 is a fresh kind with image length 192: 00 None, 01 Sram, 02 Flash64, 04 Eeprom512, 05 Eeprom8k"
 unfoldable pub fresh_of : ℕ → FirstLine
 fresh_of x =
-    cond (eqb x 0) (Fresh None)
-    (cond (eqb x 1) (Fresh Sram)
-    (cond (eqb x 2) (Fresh Flash64) (cond (eqb x 4) (Fresh Eeprom512) (cond (eqb x 5) (Fresh Eeprom8k) NoKind))))
+    cond (eqb x 0) (std.Some None)
+    (cond (eqb x 1) (std.Some Sram)
+    (cond (eqb x 2) (std.Some Flash64) (cond (eqb x 4) (std.Some Eeprom512) (cond (eqb x 5) (std.Some Eeprom8k) std.None))))
 
 abbrev pub first_of : ℕ → ℕ → FirstLine
-first_of n x = cond (eqb n 2) (fresh_of x) NoKind
+first_of n x = cond (eqb n 2) (fresh_of x) std.None
 
 -- a line that is digits throughout, by how many there are and their number
 abbrev pub numbered : {A : Type 0} → (ℕ → ℕ → A) → A → ℕ → Option ℕ → A
@@ -57,7 +61,7 @@ unfoldable pub frame : List ℕ → Frame
 frame line = numbered frame_of Bad (length line) (number_from 0 line)
 
 unfoldable pub first_line : List ℕ → FirstLine
-first_line line = numbered first_of NoKind (length line) (number_from 0 line)
+first_line line = numbered first_of std.None (length line) (number_from 0 line)
 
 -- a line read so far: the count of its digits and their number, while it can still be a frame
 abbrev pub line_with : Bool → ℕ → ℕ → Line
@@ -85,7 +89,7 @@ abbrev pub frame_in : Line → Frame
 frame_in l = read_in frame_of Bad l
 
 abbrev pub first_in : Line → FirstLine
-first_in l = read_in first_of NoKind l
+first_in l = read_in first_of std.None l
 
 -- a line that is printed: "00 and the answer .., or the refusal number as two hexadecimal digits"
 unfoldable pub line_of : ℕ → List ℕ → List ℕ

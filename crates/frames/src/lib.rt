@@ -6,7 +6,7 @@ mod print;
 
 ghost use Rattle.std.specs.Prelude.{◌≡◌};
 ghost use Rattle.frames.specs.Frames.{ten_digits, twelve_digits, two_digits, six_digits, frame_of, fresh_of, first_of};
-ghost use Rattle.frames.specs.Frames.{line_with, empty_line, pushed, frame_in, first_in};
+ghost use Rattle.frames.specs.Frames.{empty_line, pushed, frame_in, first_in};
 
 use kind::SaveType;
 pub use print::print_line;
@@ -23,13 +23,8 @@ pub enum Frame {
     BeginDma(u16),
     TakeFlag,
     ChipState,
+    // Kept: a bad line is answered beside the others (FF), so an Option would only be matched apart.
     Bad,
-}
-
-#[derive(Clone, Copy)]
-pub enum FirstLine {
-    Fresh(SaveType),
-    NoKind,
 }
 
 // A line of any length, read so far: the count of its digits and their number, while it can still be a frame.
@@ -82,7 +77,7 @@ fn six_digits(x: u64) -> Frame
     Frame::Bad
 }
 
-fn frame_of(n: usize, x: u64) -> Frame
+fn frame_of(n: u8, x: u64) -> Frame
     ensures { result ≡ frame_of n x }
 {
     match n {
@@ -94,42 +89,36 @@ fn frame_of(n: usize, x: u64) -> Frame
     }
 }
 
-fn fresh_of(x: u64) -> FirstLine
+fn fresh_of(x: u64) -> Option<SaveType>
     ensures { result ≡ fresh_of x }
 {
     match x {
-        0 => FirstLine::Fresh(SaveType::None),
-        1 => FirstLine::Fresh(SaveType::Sram),
-        2 => FirstLine::Fresh(SaveType::Flash64),
-        4 => FirstLine::Fresh(SaveType::Eeprom512),
-        5 => FirstLine::Fresh(SaveType::Eeprom8k),
-        _ => FirstLine::NoKind,
+        0 => Some(SaveType::None),
+        1 => Some(SaveType::Sram),
+        2 => Some(SaveType::Flash64),
+        4 => Some(SaveType::Eeprom512),
+        5 => Some(SaveType::Eeprom8k),
+        _ => None,
     }
 }
 
-fn first_of(n: usize, x: u64) -> FirstLine
+fn first_of(n: u8, x: u64) -> Option<SaveType>
     ensures { result ≡ first_of n x }
 {
     if n == 2 {
         return fresh_of(x);
     }
-    FirstLine::NoKind
-}
-
-fn line_with(good: bool, count: u8, value: u64) -> Line
-    ensures { result ≡ line_with good count value }
-{
-    Line {
-        good: good,
-        count: count,
-        value: value,
-    }
+    None
 }
 
 pub fn empty_line() -> Line
     ensures { result ≡ empty_line }
 {
-    line_with(true, 0, 0)
+    Line {
+        good: true,
+        count: 0,
+        value: 0,
+    }
 }
 
 // A line with one more character.
@@ -139,30 +128,30 @@ pub fn push(l: Line, c: u8) -> Line
     if !l.good {
         return l;
     }
-    if 12 <= l.count {
-        return line_with(false, l.count, l.value);
+    match hex_text::digit(c) {
+        Some(v) if l.count < 12 => Line {
+            count: l.count + 1,
+            value: (l.value << 4) + u64::from(v),
+            ..l
+        },
+        _ => Line { good: false, ..l },
     }
-    let v = hex_text::value_of(c);
-    if 16 <= v {
-        return line_with(false, l.count, l.value);
-    }
-    line_with(true, l.count + 1, (l.value << 4) + v as u64)
 }
 
 pub fn frame_in(l: Line) -> Frame
     ensures { result ≡ frame_in l }
 {
     if l.good {
-        return frame_of(l.count as usize, l.value);
+        return frame_of(l.count, l.value);
     }
     Frame::Bad
 }
 
-pub fn first_in(l: Line) -> FirstLine
+pub fn first_in(l: Line) -> Option<SaveType>
     ensures { result ≡ first_in l }
 {
     if l.good {
-        return first_of(l.count as usize, l.value);
+        return first_of(l.count, l.value);
     }
-    FirstLine::NoKind
+    None
 }

@@ -24,11 +24,9 @@ pub fn print_line(out: &mut [u8], status: u8, bytes: &[u8]) -> usize
 {
     put_digits(out, 0, status);
     let mut end = 2;
-    let mut i = 0;
-    while i < bytes.len() {
-        put_digits(out, end, bytes[i]);
+    for byte in bytes {
+        put_digits(out, end, *byte);
         end += 2;
-        i += 1;
     }
     out[end] = 0x0A;
     end + 1

@@ -2,7 +2,7 @@
 
 #![tactic(auto)]
 
-ghost use Rattle.std.specs.Prelude.{◌≡◌, ◌<◌};
+ghost use Rattle.std.specs.Prelude.{◌≡◌, ◌<◌, MatchOption};
 ghost use Rattle.hex_text.specs.Hex.{character, value_of};
 
 pub fn character(digit: u8) -> u8
@@ -16,14 +16,21 @@ pub fn character(digit: u8) -> u8
     }
 }
 
-// The value of a digit, and 16 for every other character.
+// The value of a digit, if the character is one.
 #[tactic(auto, using(lists::proofs::Bools::tests), unfolding(crate::specs::Hex::value_of))]
+pub fn digit(c: u8) -> Option<u8>
+    ensures { MatchOption result (value_of c ≡ 16) (λ v. (v ≡ value_of c) × (v < 16)) }
+{
+    match c {
+        0x30..=0x39 => Some(c - 0x30),
+        0x41..=0x46 => Some(c - 0x37),
+        _ => None,
+    }
+}
+
+// The value of a digit, and 16 for every other character.
 pub fn value_of(c: u8) -> u8
     ensures { result ≡ value_of c }
 {
-    match c {
-        0x30..=0x39 => c - 0x30,
-        0x41..=0x46 => c - 0x37,
-        _ => 16,
-    }
+    digit(c).unwrap_or(16)
 }

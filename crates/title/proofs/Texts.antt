@@ -1,21 +1,17 @@
 -- A text, sequence by sequence, and without the zeros at its end. Assumes nothing.
 use mathlib.Core.Path.{◌≡◌, refl, sym, ap, ◌∙◌}
-use mathlib.Core.Logic.{◌≢◌}
-use mathlib.Core.Bool.{cond}
 use mathlib.Core.List.{List, [], ◌∷◌, ◌++◌, append_assoc, append-nil}
 use Prim.Native.Nat.{ℕ, zero, suc, pred, ◌+◌, ◌*◌, ◌-◌, ◌≤◌, ◌<◌}
 use native.Mathlib.Omega.{arith}
-use lib.Dec.{eqb}
 use lib.ListN.{length, get_or, take, drop, length-append, length-take, length-drop}
-use lib.Seq.{take-suc, take-append_seam, take-append-add, length-take-le}
+use lib.Seq.{take-append_seam, take-append-add, length-take-le}
 use borrow.Author.Tests.{ne_eqb}
 use Rattle.lists.specs.Lists.{into}
-use Rattle.lists.proofs.Bools.{cases}
 use Rattle.lists.proofs.Parts.{rest}
-use Rattle.title.specs.declared.Sequence.{Sequence}
-use Rattle.title.specs.declared.Sequence.TheVariants.{Well, Ill}
+use Rattle.std.specs.Prelude.{Result}
+use Rattle.std.specs.Prelude.{Ok, Err}
 use Rattle.title.specs.declared.Shown.{Shown}
-use Rattle.title.specs.Title.{sequence, size, shown, showing, replaced, unless_last0, trimmed}
+use Rattle.title.specs.Title.{sequence, size, shown, showing, replaced, trimmed, IsLastInUse}
 use Rattle.title.proofs.Sequences.{sequence-size}
 
 -- a text is what its first sequence shows, then the rest
@@ -33,9 +29,9 @@ first_then (b ∷ s) h =
     ap (λ (l : List ℕ). shown (sequence (b ∷ s)) (b ∷ s) ++ l) (skips (pred (size (sequence (b ∷ s)))) s ∙ ap (λ (j : ℕ). replaced 0 (drop j (b ∷ s))) k)
 
 -- at most three bytes are shown for each that is taken
-pub shown-length : (q : Sequence) (s : List ℕ) → 1 ≤ size q → size q ≤ length s → length (shown q s) ≤ 3 * size q
-shown-length (Well n) s l h = omega (arith, length-take-le n s h)
-shown-length (Ill n) s l h = omega arith
+pub shown-length : (q : Result ℕ ℕ) (s : List ℕ) → 1 ≤ size q → size q ≤ length s → length (shown q s) ≤ 3 * size q
+shown-length (Ok n) s l h = omega (arith, length-take-le n s h)
+shown-length (Err n) s l h = omega arith
 
 -- a turn: the first sequence of t is shown behind the n bytes of `out` that are written, in the part that is lent from there
 module _ (out t : List ℕ) (n : ℕ) (ht : 0 < length t) (room : n + 3 * length t ≤ length out) (r : Shown) (ys : List ℕ)
@@ -82,30 +78,24 @@ unfolding replaced
 none_left l [] h = sym (append-nil l)
 none_left l (b ∷ t) h = absurd (omega arith)
 
--- the last byte of a text goes if it is 0
-unless-more : (x : ℕ) (l : List ℕ) (b : ℕ) → unless_last0 x (l ++ (b ∷ [])) ≡ x ∷ (l ++ (b ∷ []))
-unless-more x [] b = refl
-unless-more x (y ∷ l) b = refl
-
-trimmed-last : (l : List ℕ) (b : ℕ) → trimmed (l ++ (b ∷ [])) ≡ cond (eqb b 0) (trimmed l) (l ++ (b ∷ []))
+-- zeros alone go; else what is before the last byte that is not zero stays, and that byte
+pub trim_none : (s : List ℕ) → ((k : ℕ) → k < length s → get_or s k 0 ≡ 0) → [] ≡ trimmed s
 unfolding trimmed
-trimmed-last [] b = refl
-trimmed-last (x ∷ l) b =
-    ap (unless_last0 x) (trimmed-last l b)
-    ∙ cases (eqb b 0) (λ t. rw t) (λ t. rw t (unless-more x l b))
+trim_none [] h = refl
+trim_none (b ∷ s) h =
+    let z : b ≡ 0 = h 0 (omega arith) in
+    let t = trim_none s (λ k l. h (suc k) (omega arith)) in
+    rw (z, ← t) refl
 
-pub trim-none : (s : List ℕ) (k : ℕ) → k ≡ 0 → [] ≡ trimmed (take k s)
+pub trim_last : (s : List ℕ) (i : ℕ) → IsLastInUse s i → take (i + 1) s ≡ trimmed s
 unfolding trimmed
-trim-none s k e = rw e
-
-module _ (s : List ℕ) (k : ℕ) (h : 0 < k) (room : k ≤ length s) where
-  last_byte : take k s ≡ take (k - 1) s ++ (get_or s (k - 1) 0 ∷ [])
-  last_byte =
-      let e : k ≡ suc (k - 1) = omega arith in
-      ap (λ (j : ℕ). take j s) e ∙ take-suc s (k - 1) 0 (omega arith)
-
-  pub trim-zero : get_or s (k - 1) 0 ≡ 0 → trimmed (take (k - 1) s) ≡ trimmed (take k s)
-  trim-zero z = sym (ap trimmed last_byte ∙ trimmed-last (take (k - 1) s) (get_or s (k - 1) 0) ∙ rw z)
-
-  pub trim_end : get_or s (k - 1) 0 ≢ 0 → take k s ≡ trimmed (take k s)
-  trim_end z = last_byte ∙ sym (ap trimmed last_byte ∙ trimmed-last (take (k - 1) s) (get_or s (k - 1) 0) ∙ rw (ne_eqb (get_or s (k - 1) 0) 0 z))
+trim_last [] i h = absurd (omega (arith, h.0))
+trim_last (b ∷ s) zero h =
+    let t = trim_none s (λ k l. h.2 (suc k) (omega arith) (omega arith)) in
+    rw (← t, ne_eqb b 0 h.1) refl
+trim_last (b ∷ []) (suc i) h = absurd (omega (arith, h.0))
+trim_last (b ∷ c ∷ s) (suc i) h =
+    let t = trim_last (c ∷ s) i (omega (arith, h.0), h.1, λ k m l. h.2 (suc k) (omega arith) (omega arith)) in
+    let e : suc i + 1 ≡ suc (i + 1) = omega arith in
+    let f : i + 1 ≡ suc i = omega arith in
+    rw (e, ← t, f) refl

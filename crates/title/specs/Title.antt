@@ -1,13 +1,11 @@
 -- The title. Document 01, "Beside the machine", and the Unicode Standard, chapter 3.
-use Rattle.std.specs.Prelude.{Bool, false, cond, ◌&&◌, List, [], ◌∷◌, ◌++◌, ℕ, zero, suc, pred, leb, eqb, length, take, drop}
+use Rattle.std.specs.Prelude.{Bool, false, cond, ◌&&◌, List, [], ◌∷◌, ◌++◌, Result, Ok, Err, ℕ, zero, suc, pred, leb, eqb, length, take, drop, slice_index, ◌<◌, ◌≡◌, ◌≢◌}
 use Rattle.std.proofs.Math.Option.{Option, none, some}
 use Rattle.std.proofs.Math.Seq.{slice}
 use Rattle.lists.specs.Lists.{into}
 use Rattle.lists.specs.Questions.{Question, ◌else◌, asked}
 use Rattle.image.specs.Image.{Answer}
-use Rattle.title.specs.declared.Sequence.{Sequence}
 use Rattle.title.specs.declared.Shown.{Shown}
-use Rattle.title.specs.declared.Sequence.TheVariants.{Well, Ill}
 use Rattle.image.specs.Image.{header_question, answered}
 
 unfoldable pub between : ℕ → ℕ → ℕ → Bool
@@ -37,26 +35,26 @@ abbrev pub begins : List ℕ → (ℕ → Bool) → Bool
 begins [] r = false
 begins (b ∷ s) r = r b
 
-unfoldable pub goes_on : ℕ → List (ℕ → Bool) → List ℕ → Sequence
-goes_on n [] s = Well n
-goes_on n (r ∷ rs) s = cond (begins s r) (goes_on (suc n) rs (drop 1 s)) (Ill n)
+unfoldable pub goes_on : ℕ → List (ℕ → Bool) → List ℕ → Result ℕ ℕ
+goes_on n [] s = Ok n
+goes_on n (r ∷ rs) s = cond (begins s r) (goes_on (suc n) rs (drop 1 s)) (Err n)
 
-unfoldable pub front : Option (List (ℕ → Bool)) → List ℕ → Sequence
-front none s = Ill 1
+unfoldable pub front : Option (List (ℕ → Bool)) → List ℕ → Result ℕ ℕ
+front none s = Err 1
 front (some rs) s = goes_on 1 rs s
 
-unfoldable pub sequence : List ℕ → Sequence
-sequence [] = Well 0
+unfoldable pub sequence : List ℕ → Result ℕ ℕ
+sequence [] = Ok 0
 sequence (b ∷ s) = front (following b) s
 
-abbrev pub size : Sequence → ℕ
-size (Well n) = n
-size (Ill n) = n
+abbrev pub size : Result ℕ ℕ → ℕ
+size (Ok n) = n
+size (Err n) = n
 
 -- "each maximal subpart of an ill-formed subsequence replaced by EFh BFh BDh"
-abbrev pub shown : Sequence → List ℕ → List ℕ
-shown (Well n) s = take n s
-shown (Ill n) s = 0xef ∷ 0xbf ∷ 0xbd ∷ []
+abbrev pub shown : Result ℕ ℕ → List ℕ → List ℕ
+shown (Ok n) s = take n s
+shown (Err n) s = 0xef ∷ 0xbf ∷ 0xbd ∷ []
 
 -- what a text begins with, shown at the front of a destination: how many bytes of the text it is and how many are shown
 abbrev pub showing : List ℕ → List ℕ → Shown × List ℕ
@@ -69,6 +67,10 @@ unfoldable pub replaced : ℕ → List ℕ → List ℕ
 replaced k [] = []
 replaced zero (b ∷ s) = shown (sequence (b ∷ s)) (b ∷ s) ++ replaced (pred (size (sequence (b ∷ s)))) s
 replaced (suc k) (b ∷ s) = replaced k s
+
+-- the last byte that is not zero is at place i
+abbrev pub IsLastInUse : List ℕ → ℕ → Type 0
+IsLastInUse s i = (i < length s) × (slice_index s i ≢ 0) × ((k : ℕ) → i < k → k < length s → slice_index s k ≡ 0)
 
 -- "trailing zero bytes dropped"
 abbrev pub unless_last0 : ℕ → List ℕ → List ℕ

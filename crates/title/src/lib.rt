@@ -4,18 +4,11 @@
 
 mod utf8;
 
-ghost use Rattle.std.specs.Prelude.{◌≡◌, ◌*◌, ◌<◌, ◌≤◌, length, take};
+ghost use Rattle.std.specs.Prelude.{◌≡◌, ◌*◌, ◌<◌, ◌≤◌, length, take, slice_index, EachIndex, MatchOption};
 ghost use Rattle.image.specs.Image.{answer_of};
-ghost use Rattle.title.specs.Title.{showing, replaced, trimmed, header_title};
+ghost use Rattle.title.specs.Title.{showing, replaced, trimmed, header_title, IsLastInUse};
 
 use refusal::Refusal;
-
-// What a text begins with: a well-formed UTF-8 sequence, or the maximal subpart of an ill-formed one, by its length.
-#[derive(Clone, Copy)]
-pub enum Sequence {
-    Well(usize),
-    Ill(usize),
-}
 
 // How many bytes of a text were taken, and how many are shown for them.
 #[derive(Clone, Copy)]
@@ -29,13 +22,12 @@ fn show(out: &mut [u8], s: &[u8]) -> Shown
     requires { (0 < length s.now) × (3 * length s.now ≤ length out.old) }
     ensures { (result, out.new) ≡ showing s.now out.old }
 {
-    let first = utf8::sequence(s);
-    match first {
-        Sequence::Well(n) => {
+    match utf8::sequence(s) {
+        Ok(n) => {
             lists::copy(&mut *out, &s[..n]);
             Shown { used: n, len: n }
         }
-        Sequence::Ill(n) => {
+        Err(n) => {
             lists::copy(&mut *out, b"\xEF\xBF\xBD");
             Shown { used: n, len: 3 }
         }
@@ -51,27 +43,28 @@ fn replace(out: &mut [u8], s: &[u8]) -> usize
     let mut t = s;
     let mut n: usize = 0;
     while t.len() > 0 {
-        let e = show(&mut out[n..], t);
-        n += e.len;
-        let used = e.used;
-        t = &t[used..];
+        let shown = show(&mut out[n..], t);
+        n += shown.len;
+        t = &t[shown.used..];
     }
     n
 }
 
-// How much of the first n bytes is left without the zeros at their end.
-fn trim(s: &[u8], n: usize) -> usize
-    requires { n ≤ length s.now }
-    ensures { (take result s.now ≡ trimmed (take n s.now)) × (result ≤ n) }
+// The place of the last byte that is not zero.
+fn last_in_use(s: &[u8]) -> Option<usize>
+    ensures { MatchOption result (EachIndex s.now (λ k. slice_index s.now k ≡ 0)) (IsLastInUse s.now) }
 {
-    let mut k = n;
-    while k > 0 {
-        if s[k - 1] != 0 {
-            return k;
-        }
-        k -= 1;
+    s.iter().rposition(|b| *b != 0)
+}
+
+// How long the text is without the zeros at its end.
+fn trim(s: &[u8]) -> usize
+    ensures { (take result s.now ≡ trimmed s.now) × (result ≤ length s.now) }
+{
+    match last_in_use(s) {
+        Some(last) => last + 1,
+        None => 0,
     }
-    0
 }
 
 pub fn header_title(image: &[u8], destination: &mut [u8]) -> Result<u32, Refusal>
@@ -83,7 +76,7 @@ pub fn header_title(image: &[u8], destination: &mut [u8]) -> Result<u32, Refusal
     }
     let mut text = [0u8; 36];
     let n = replace(&mut text, &image[0xA0..0xAC]);
-    let len = trim(&text, n);
+    let len = trim(&text[..n]);
     if destination.len() < len {
         return Err(Refusal::Destination);
     }

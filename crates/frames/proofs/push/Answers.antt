@@ -1,5 +1,10 @@
 use borrow.Author.Tests.{not-true, not-false, lt-ltb, le-ltb}
-use mathlib.Core.Path.{sym, ◌∙◌}
+use mathlib.Core.Path.{◌∙◌}
+use Prim.Native.Nat.{◌<◌}
+use native.Mathlib.Omega.{arith}
+use lib.Dec.{ltb}
+use Rattle.lists.proofs.Bools.{cases}
+use Rattle.hex_text.specs.Hex.{value_of}
 use Rattle.frames.specs.Frames.{pushed}
 use Rattle.frames.proofs.push.Goals as goal
 
@@ -7,14 +12,20 @@ pub returns-then-not-l : goal.returns-then-not-l
 unfolding pushed
 returns-then-not-l c = rw (not-true c.args.l.good c.if-not-l.true)
 
-pub returns-then-l-ge12 : goal.returns-then-l-ge12
+pub returns-in-Some : goal.returns-in-Some
 unfolding pushed
-returns-then-l-ge12 c = c.line_with.ensures ∙ rw (not-false c.args.l.good c.if-not-l.false, le-ltb _ _ c.if-l-ge12.true)
+returns-in-Some c =
+    let digit = c.in-Some.ensures in
+    let fits : value_of c.args.c < 16 = omega (arith, digit) in
+    rw (not-false c.args.l.good c.if-not-l.false, lt-ltb _ _ c.if-l-lt12.true, lt-ltb _ _ fits, c.from.ensures ∙ digit.0)
 
-pub returns-then-v-ge16 : goal.returns-then-v-ge16
+pub returns-in_default : goal.returns-in_default
 unfolding pushed
-returns-then-v-ge16 c = c.line_with-then-v-ge16.ensures ∙ rw (not-false c.args.l.good c.if-not-l.false, lt-ltb _ _ c.if-l-ge12.false, sym c.value_of-v.ensures, le-ltb _ _ c.if-v-ge16.true)
+returns-in_default c = rw (not-false c.args.l.good c.if-not-l.false, le-ltb _ _ c.if-l-lt12.false)
 
-pub returns : goal.returns
+pub returns-in_default-2 : goal.returns-in_default-2
 unfolding pushed
-returns c = c.line_with-2.ensures ∙ rw (not-false c.args.l.good c.if-not-l.false, lt-ltb _ _ c.if-l-ge12.false, sym c.value_of-v.ensures, lt-ltb _ _ c.if-v-ge16.false)
+returns-in_default-2 c =
+    let good = not-false c.args.l.good c.if-not-l.false in
+    let none = c.in_default.ensures in
+    cases (ltb c.args.l.count 12) (λ p. rw (good, p, none)) (λ p. rw (good, p))

@@ -1,6 +1,7 @@
 -- `title::header_title` meets its contract. Assumes nothing.
 use native.Mathlib.Omega.{arith}
 use mathlib.Core.Path.{sym}
+use lib.ListN.{length-take}
 use lib.Seq.{length-take-le}
 use Rattle.title.proofs.Answers.{title-short, title-text, title-13, title-done}
 use Rattle.title.proofs.header_title.Goals as goal
@@ -13,25 +14,25 @@ returns-then-destination-len c =
     let a = c.args in
     let s = c.replace-n in
     let t = c.trim-len in
-    title-13 a.image.now a.destination.now s.new.out t.result c.if-image-lt192.false (omega (arith, s.ensures.1, t.ensures.1))
-    (title-text a.image.now s.new.out s.result t.result s.ensures.0 t.ensures.0) c.if-destination-len.true
+    title-13 a.image.now a.destination.now s.new.out t.result c.if-image-lt192.false (omega (arith, s.ensures.1, t.ensures.1, length-take s.result s.new.out))
+    (title-text a.image.now s.new.out s.result t.result s.ensures.0 t.ensures.1 t.ensures.0) c.if-destination-len.true
 
 pub slice_bounds-copy-end : goal.slice_bounds-copy-end
 slice_bounds-copy-end c =
     let s = c.replace-n in
     let t = c.trim-len in
-    sym (length-take-le t.result s.new.out (omega (arith, s.ensures.1, t.ensures.1)))
+    sym (length-take-le t.result s.new.out (omega (arith, s.ensures.1, t.ensures.1, length-take s.result s.new.out)))
 
 pub copy-requires : goal.copy-requires
 copy-requires c =
     let s = c.replace-n in
     let t = c.trim-len in
-    omega (arith, length-take-le t.result s.new.out (omega (arith, s.ensures.1, t.ensures.1)))
+    omega (arith, length-take-le t.result s.new.out (omega (arith, s.ensures.1, t.ensures.1, length-take s.result s.new.out)))
 
 pub returns : goal.returns
 returns c =
     let a = c.args in
     let s = c.replace-n in
     let t = c.trim-len in
-    title-done a.image.now a.destination.now s.new.out t.result c.if-image-lt192.false (omega (arith, s.ensures.1, t.ensures.1))
-    (title-text a.image.now s.new.out s.result t.result s.ensures.0 t.ensures.0) c.if-destination-len.false c.copy.ensures
+    title-done a.image.now a.destination.now s.new.out t.result c.if-image-lt192.false (omega (arith, s.ensures.1, t.ensures.1, length-take s.result s.new.out))
+    (title-text a.image.now s.new.out s.result t.result s.ensures.0 t.ensures.1 t.ensures.0) c.if-destination-len.false c.copy.ensures

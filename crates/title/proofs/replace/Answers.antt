@@ -8,37 +8,37 @@ use Rattle.title.proofs.replace.Goals as goal
 pub loop-t-init : goal.loop-t-init
 loop-t-init c = (omega arith, refl, refl)
 
-pub show-e-requires : goal.show-e-requires
-show-e-requires c = (omega arith, omega arith)
+pub show-shown-requires : goal.show-shown-requires
+show-shown-requires c = (omega arith, omega arith)
 
 pub overflow_add-n : goal.overflow_add-n
 overflow_add-n c =
     let b = c.loop-t in
-    let s = c.show-e in
+    let s = c.show-shown in
     omega (arith, used-most b.out b.t.now b.n c.loop-t-test.true b.invariant.0 s.result s.new.out s.ensures, len-most b.out b.t.now b.n c.loop-t-test.true b.invariant.0 s.result s.new.out s.ensures)
 
 pub slice_bounds-t-count : goal.slice_bounds-t-count
 slice_bounds-t-count c =
     let b = c.loop-t in
-    let s = c.show-e in
+    let s = c.show-shown in
     used-most b.out b.t.now b.n c.loop-t-test.true b.invariant.0 s.result s.new.out s.ensures
 
 pub slice_bounds-t-start : goal.slice_bounds-t-start
 slice_bounds-t-start c =
     let b = c.loop-t in
-    let s = c.show-e in
+    let s = c.show-shown in
     used-most b.out b.t.now b.n c.loop-t-test.true b.invariant.0 s.result s.new.out s.ensures
 
 pub loop-t-smaller : goal.loop-t-smaller
 loop-t-smaller c =
     let b = c.loop-t in
-    let s = c.show-e in
+    let s = c.show-shown in
     omega (arith, used-least b.out b.t.now b.n c.loop-t-test.true b.invariant.0 s.result s.new.out s.ensures)
 
 pub loop-t-preserved : goal.loop-t-preserved
 loop-t-preserved c =
     let b = c.loop-t in
-    let s = c.show-e in
+    let s = c.show-shown in
     let h = c.loop-t-test.true in
     let m = used-most b.out b.t.now b.n h b.invariant.0 s.result s.new.out s.ensures in
     let l = len-most b.out b.t.now b.n h b.invariant.0 s.result s.new.out s.ensures in

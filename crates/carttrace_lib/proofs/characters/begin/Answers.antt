@@ -4,8 +4,8 @@ use lib.ListN.{replicate}
 use lib.Seq.{length-take-le}
 use Rattle.kind.proofs.Sizes.{memory-small, tallies-few}
 use Rattle.memory.specs.Memory.{erased}
-use Rattle.frames.specs.declared.FirstLine.{FirstLine}
-use Rattle.frames.specs.declared.FirstLine.TheVariants.{Fresh, NoKind}
+use Rattle.frames.specs.Frames.{FirstLine}
+use Rattle.std.specs.Prelude.{Some, None}
 use Rattle.carttrace_lib.specs.declared.Stage.TheVariants.{Playing, Over}
 use Rattle.carttrace_lib.specs.Trace.{fresh_kind}
 use Rattle.carttrace_lib.specs.Session.{buffers, session_with, begun, told}
@@ -13,16 +13,16 @@ use Rattle.carttrace_lib.proofs.Heard.{tells, new-front}
 use Rattle.carttrace_lib.proofs.characters.begin.Goals as goal
 
 pub slice_bounds-blank-end : goal.slice_bounds-blank-end
-slice_bounds-blank-end c = omega (arith, c.memory_size-n.ensures, memory-small c.in-Fresh.kind, c.requires.in_bounds)
+slice_bounds-blank-end c = omega (arith, c.memory_size-n.ensures, memory-small c.in-Some.kind, c.requires.in_bounds)
 
-pub slice_bounds-blank-end-in-Fresh : goal.slice_bounds-blank-end-in-Fresh
-slice_bounds-blank-end-in-Fresh c = sym (length-take-le _ c.args.memory.now (omega (arith, c.memory_size-n.ensures, memory-small c.in-Fresh.kind, c.requires.in_bounds)))
+pub slice_bounds-blank-end-in-Some : goal.slice_bounds-blank-end-in-Some
+slice_bounds-blank-end-in-Some c = sym (length-take-le _ c.args.memory.now (omega (arith, c.memory_size-n.ensures, memory-small c.in-Some.kind, c.requires.in_bounds)))
 
-pub slice_bounds-blank-end-in-Fresh-2 : goal.slice_bounds-blank-end-in-Fresh-2
-slice_bounds-blank-end-in-Fresh-2 c = omega (arith, c.tally_count-k.ensures, tallies-few c.in-Fresh.kind, c.requires.in_bounds_2)
+pub slice_bounds-blank-end-in-Some-2 : goal.slice_bounds-blank-end-in-Some-2
+slice_bounds-blank-end-in-Some-2 c = omega (arith, c.tally_count-k.ensures, tallies-few c.in-Some.kind, c.requires.in_bounds_2)
 
-pub slice_bounds-blank-end-in-Fresh-3 : goal.slice_bounds-blank-end-in-Fresh-3
-slice_bounds-blank-end-in-Fresh-3 c = sym (length-take-le _ c.args.tallies.now (omega (arith, c.tally_count-k.ensures, tallies-few c.in-Fresh.kind, c.requires.in_bounds_2)))
+pub slice_bounds-blank-end-in-Some-3 : goal.slice_bounds-blank-end-in-Some-3
+slice_bounds-blank-end-in-Some-3 c = sym (length-take-le _ c.args.tallies.now (omega (arith, c.tally_count-k.ensures, tallies-few c.in-Some.kind, c.requires.in_bounds_2)))
 
 pub print_status-requires : goal.print_status-requires
 print_status-requires c = omega (arith, c.requires.longest_line_in_bounds)
@@ -30,30 +30,30 @@ print_status-requires c = omega (arith, c.requires.longest_line_in_bounds)
 pub shape_of-memory : goal.shape_of-memory
 shape_of-memory c = c.memory-1.given.1
 
-pub returns-in-Fresh : goal.returns-in-Fresh
+pub returns-in-Some : goal.returns-in-Some
 unfolding begun fresh_kind
-returns-in-Fresh c =
+returns-in-Some c =
     let n = c.memory_size-n.ensures in
     let k = c.tally_count-k.ensures in
     let g = c.requires in
     let a = c.args in
     let m = buffers a.memory.now a.tallies.now in
-    let kind = c.in-Fresh.kind in
-    tells (begun (Fresh kind) a.session m) a.out.now c.told_with.ensures
+    let kind = c.in-Some.kind in
+    tells (begun (Some kind) a.session m) a.out.now c.told_with.ensures
     (c.session_with.ensures ∙ (λ i. session_with Playing (c.empty_line.ensures i) (c.fresh_cart.ensures i)))
     c.print_status.ensures
     (new-front erased a.memory.now n (omega (arith, n, memory-small kind, g.in_bounds)) c.blank.ensures.memory_after)
     (new-front (λ j. replicate j 0) a.tallies.now k (omega (arith, k, tallies-few kind, g.in_bounds_2)) c.blank.ensures.tallies_after)
-    ∙ ap (λ (x : FirstLine). told (begun x a.session m) a.out.now) (sym c.in-Fresh.is)
+    ∙ ap (λ (x : FirstLine). told (begun x a.session m) a.out.now) (sym c.in-Some.is)
 
-pub returns-in-NoKind : goal.returns-in-NoKind
+pub returns-in-None : goal.returns-in-None
 unfolding begun
-returns-in-NoKind c =
+returns-in-None c =
     let a = c.args in
     let m = buffers a.memory.now a.tallies.now in
-    tells (begun NoKind a.session m) a.out.now c.told_with-in-NoKind.ensures
-    (c.session_with-in-NoKind.ensures ∙ (λ i. session_with Over (c.empty_line-in-NoKind.ensures i) a.session.cart))
-    c.print_status-in-NoKind.ensures
+    tells (begun None a.session m) a.out.now c.told_with-in-None.ensures
+    (c.session_with-in-None.ensures ∙ (λ i. session_with Over (c.empty_line-in-None.ensures i) a.session.cart))
+    c.print_status-in-None.ensures
     refl
     refl
-    ∙ ap (λ (f : FirstLine). told (begun f a.session m) a.out.now) (sym c.in-NoKind.is)
+    ∙ ap (λ (f : FirstLine). told (begun f a.session m) a.out.now) (sym c.in-None.is)

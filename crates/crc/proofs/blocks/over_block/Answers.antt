@@ -1,20 +1,28 @@
--- `crc::blocks::over_block` meets its contract. Assumes nothing.
-use Rattle.crc.proofs.Joining.{joined}
+-- `crc::blocks::over_block` meets its contract: the register is the fold over the lanes so far. Assumes nothing.
+use mathlib.Core.Path.{refl, ap, ◌∙◌}
+use Prim.Native.Nat.{ℕ}
+use native.Mathlib.Omega.{arith}
+use mathlib.Core.List.{List}
+use lib.Bits.{bit_xor}
+use lib.ListN.{get_or}
+use Rattle.lists.specs.Lists.{fold}
+use Rattle.crc.specs.Crc.{crc_bits}
+use Rattle.crc.proofs.Joining.{next-lane, whole-block}
 use Rattle.crc.proofs.blocks.over_block.Goals as goal
+
+pub loop-end-init : goal.loop-end-init
+unfolding fold
+loop-end-init c = refl
+
+pub loop-end-preserved : goal.loop-end-preserved
+loop-end-preserved c =
+    let a = c.args in
+    let b = c.loop-end in
+    next-lane a.start a.s.now b.end-index b.c c.join-c.result c.requires.s_len (omega arith) b.invariant
+    (c.join-c.ensures ∙ ap (λ (v : List ℕ). bit_xor (crc_bits 32768 b.c) (get_or v b.end-index 0)) c.lane_ends-ends.ensures)
 
 pub returns : goal.returns
 returns c =
-    let j6 = c in
-    let j5 = j6 in
-    let j4 = j5 in
-    let j3 = j4 in
-    let j2 = j3 in
-    let j1 = j2 in
-    let v = j1.lane_ends-v in
-    let entry = j1 in
-    joined entry.args.c entry.args.s.now
-    j1.join-a1.result j2.join-a2.result j3.join-a3.result j4.join-a4.result
-    j5.join-a5.result j6.join-a6.result c.join.result
-    v.result entry.requires.s_len v.ensures
-    j1.join-a1.ensures j2.join-a2.ensures j3.join-a3.ensures j4.join-a4.ensures
-    j5.join-a5.ensures j6.join-a6.ensures c.join.ensures
+    let a = c.args in
+    let b = c.loop-end in
+    b.invariant ∙ whole-block a.start a.s.now b.end-index c.requires.s_len (omega arith)

@@ -1,19 +1,17 @@
--- `crc::blocks::over_bytes` meets its contract: the register is the fold over the bytes so far. Assumes nothing.
+-- `crc::blocks::over_bytes` meets its contract: the bytes that are left, from the register as it is. Assumes nothing.
 use mathlib.Core.Path.{◌≡◌}
-use Prim.Native.Nat.{◌-◌, ◌≤◌}
-use lib.ListN.{length, take}
+use Prim.Native.Nat.{◌-◌, ◌%◌}
+use lib.ListN.{length, drop}
 use Rattle.lists.specs.Lists.{fold}
 use Rattle.crc.specs.Crc.{crc_byte}
 use Rattle.crc.proofs.blocks.over_bytes.Given as goal
 
-abbrev pub invariant-loop-i : goal.invariant-loop-i
-invariant-loop-i l = (l.i ≤ length l.s) × (l.c ≡ fold crc_byte l.start (take l.i l.s))
+abbrev pub invariant-loop-block : goal.invariant-loop-block
+invariant-loop-block l =
+    let left = l.block-iterator.rest.now in
+    (l.block-iterator.size ≡ 32768)
+    × (l.rest ≡ drop (length left - length left % 32768) left)
+    × (fold crc_byte l.c left ≡ fold crc_byte l.start l.s)
 
-abbrev pub decreases-loop-i : goal.decreases-loop-i
-decreases-loop-i l = length l.s - l.i
-
-abbrev pub invariant-loop-i-2 : goal.invariant-loop-i-2
-invariant-loop-i-2 l = (l.i ≤ length l.s) × (l.c ≡ fold crc_byte l.start (take l.i l.s))
-
-abbrev pub decreases-loop-i-2 : goal.decreases-loop-i-2
-decreases-loop-i-2 l = length l.s - l.i
+abbrev pub invariant-loop-byte : goal.invariant-loop-byte
+invariant-loop-byte l = fold crc_byte l.c (drop l.byte-index l.rest) ≡ fold crc_byte l.start l.s

@@ -1,11 +1,12 @@
 -- `crc::lanes::lane_ends` meets its contract: each register is the fold over its lane's bytes so far. Assumes nothing.
 use mathlib.Core.Path.{◌≡◌}
-use Prim.Native.Nat.{◌-◌, ◌≤◌, ◌%◌}
+use Prim.Native.Nat.{◌+◌, ◌-◌, ◌*◌}
 use Rattle.crc.specs.Lanes.{lane_ends}
+use Rattle.crc.proofs.Rounds.{leaves}
 use Rattle.crc.proofs.lanes.lane_ends.Given as goal
 
-abbrev pub invariant-loop-i : goal.invariant-loop-i
-invariant-loop-i l = (l.i % 4 ≡ 0) × (l.i ≤ 4096) × (l.v ≡ lane_ends l.c l.s l.i)
+abbrev pub invariant-loop-word : goal.invariant-loop-word
+invariant-loop-word l = l.registers ≡ lane_ends l.s (4 * l.word)
 
-abbrev pub decreases-loop-i : goal.decreases-loop-i
-decreases-loop-i l = 4096 - l.i
+abbrev pub invariant-loop : goal.invariant-loop
+invariant-loop l = leaves (4 - l.counter) l.registers ≡ lane_ends l.s (4 * l.word + 4)

@@ -16,21 +16,21 @@ slice_bounds-first_kind-end c = sym (length-take-le c.line_length-end.result c.a
 pub returns-then-text-gt-LONGEST_TRACE : goal.returns-then-text-gt-LONGEST_TRACE
 returns-then-text-gt-LONGEST_TRACE c =
     let a = c.args in
-    let e = trace-first a.text.now a.memory.now a.scratch.now a.answers.now c.line_length-end.result c.after_line-from.result _ c.if-text-eq0.false c.line_length-end.ensures.0 c.after_line-from.ensures.1 (sym c.in-Fresh.is ∙ c.first_kind.ensures) ∙ too_long _ (length a.text.now) _ a.memory.now a.scratch.now a.answers.now c.if-text-gt-LONGEST_TRACE.true in
+    let e = trace-first a.text.now a.memory.now a.scratch.now a.answers.now c.line_length-end.result c.after_line-from.result _ c.if-text-eq0.false c.line_length-end.ensures.0 c.after_line-from.ensures.1 (sym c.in-Some.is ∙ c.first_kind.ensures) ∙ too_long _ (length a.text.now) _ a.memory.now a.scratch.now a.answers.now c.if-text-gt-LONGEST_TRACE.true in
     let s = shows a.out.now e c.print_line.ensures.value c.print_line.ensures.out_after in
     record { shows = s; upper_bound = shows-fits (cuttrace a.text.now a.memory.now a.scratch.now a.answers.now) _ a.out.now s c.out-1.given }
 
 pub returns-else-text-gt-LONGEST_TRACE : goal.returns-else-text-gt-LONGEST_TRACE
 returns-else-text-gt-LONGEST_TRACE c =
     let a = c.args in
-    let e = trace-first a.text.now a.memory.now a.scratch.now a.answers.now c.line_length-end.result c.after_line-from.result _ c.if-text-eq0.false c.line_length-end.ensures.0 c.after_line-from.ensures.1 (sym c.in-Fresh.is ∙ c.first_kind.ensures) ∙ not-long _ (length a.text.now) _ a.memory.now a.scratch.now a.answers.now c.if-text-gt-LONGEST_TRACE.false in
+    let e = trace-first a.text.now a.memory.now a.scratch.now a.answers.now c.line_length-end.result c.after_line-from.result _ c.if-text-eq0.false c.line_length-end.ensures.0 c.after_line-from.ensures.1 (sym c.in-Some.is ∙ c.first_kind.ensures) ∙ not-long _ (length a.text.now) _ a.memory.now a.scratch.now a.answers.now c.if-text-gt-LONGEST_TRACE.false in
     let s = shows a.out.now e c.play_lines.ensures.0 c.play_lines.ensures.1 in
-    record { shows = s; upper_bound = shows-fits (cuttrace a.text.now a.memory.now a.scratch.now a.answers.now) _ a.out.now s c.out-in-Fresh-1.given }
+    record { shows = s; upper_bound = shows-fits (cuttrace a.text.now a.memory.now a.scratch.now a.answers.now) _ a.out.now s c.out-in-Some-1.given }
 
-pub returns-in-NoKind : goal.returns-in-NoKind
+pub returns-in-None : goal.returns-in-None
 unfolding play_from
-returns-in-NoKind c =
+returns-in-None c =
     let a = c.args in
-    let e = trace-first a.text.now a.memory.now a.scratch.now a.answers.now c.line_length-end.result c.after_line-from.result _ c.if-text-eq0.false c.line_length-end.ensures.0 c.after_line-from.ensures.1 (sym c.in-NoKind.is ∙ c.first_kind.ensures) in
-    let s = shows a.out.now e c.print_line-in-NoKind.ensures.value c.print_line-in-NoKind.ensures.out_after in
-    record { shows = s; upper_bound = shows-fits (cuttrace a.text.now a.memory.now a.scratch.now a.answers.now) _ a.out.now s c.out-in-NoKind-1.given }
+    let e = trace-first a.text.now a.memory.now a.scratch.now a.answers.now c.line_length-end.result c.after_line-from.result _ c.if-text-eq0.false c.line_length-end.ensures.0 c.after_line-from.ensures.1 (sym c.in-None.is ∙ c.first_kind.ensures) in
+    let s = shows a.out.now e c.print_line-in-None.ensures.value c.print_line-in-None.ensures.out_after in
+    record { shows = s; upper_bound = shows-fits (cuttrace a.text.now a.memory.now a.scratch.now a.answers.now) _ a.out.now s c.out-in-None-1.given }

@@ -6,11 +6,11 @@ use Rattle.cuttrace_lib.proofs.whole.settled.Goals as goal
 pub slice_bounds-first_kind-end : goal.slice_bounds-first_kind-end
 slice_bounds-first_kind-end c = sym (length-take-le c.line_length-end.result c.args.text.now c.line_length-end.ensures.1)
 
-pub returns-in-Fresh : goal.returns-in-Fresh
-returns-in-Fresh c = sym (settled-said c.args.text.now c.line_length-end.result _ c.line_length-end.ensures.0 (sym c.in-Fresh.is ∙ c.first_kind.ensures))
+pub returns-in-Some : goal.returns-in-Some
+returns-in-Some c = sym (settled-said c.args.text.now c.line_length-end.result _ c.line_length-end.ensures.0 (sym c.in-Some.is ∙ c.first_kind.ensures))
 
 pub returns-then-end-text : goal.returns-then-end-text
-returns-then-end-text c = bad-ended c.args.text.now c.line_length-end.result c.line_length-end.ensures.0 (sym c.in-NoKind.is ∙ c.first_kind.ensures) c.if-end-text.true
+returns-then-end-text c = bad-ended c.args.text.now c.line_length-end.result c.line_length-end.ensures.0 (sym c.in-None.is ∙ c.first_kind.ensures) c.if-end-text.true
 
 pub returns-else-end-text : goal.returns-else-end-text
-returns-else-end-text c = bad-unended c.args.text.now c.line_length-end.result c.line_length-end.ensures.0 (sym c.in-NoKind.is ∙ c.first_kind.ensures) c.if-end-text.false
+returns-else-end-text c = bad-unended c.args.text.now c.line_length-end.result c.line_length-end.ensures.0 (sym c.in-None.is ∙ c.first_kind.ensures) c.if-end-text.false
