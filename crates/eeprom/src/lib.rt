@@ -9,14 +9,14 @@ mod phases;
 ghost use Rattle.std.specs.Prelude.{◌≡◌};
 ghost use Rattle.eeprom.specs.Eeprom.{width_allowed, w, told, tells6};
 ghost use Rattle.eeprom.specs.Eeprom.{tells14, begin_dma, dma_question};
-ghost use Rattle.eeprom.specs.Eeprom.{serial, ended};
+ghost use Rattle.eeprom.specs.Eeprom.{ended};
 
 pub use input::{shift, turn, write_bit};
 use memory::Store;
 pub use output::{after_read, draw, read_bit};
 pub use phases::count_limit;
 
-#[derive(Clone, Copy)]
+#[derive(Clone, Copy, PartialEq, Eq)]
 pub enum EepromPhase {
     Opcode,
     ReadAddress,
@@ -65,12 +65,7 @@ pub enum Drawn {
 pub fn width_allowed(width: u8) -> bool
     ensures { result ≡ width_allowed width }
 {
-    match width {
-        0 => true,
-        6 => true,
-        14 => true,
-        _ => false,
-    }
+    matches!(width, 0 | 6 | 14)
 }
 
 // The address bits of the chip.
@@ -86,28 +81,19 @@ pub fn w(width: u8, large: bool) -> u8
 pub fn told(width: u8, large: bool, e: Eeprom) -> Eeprom
     ensures { result ≡ told width large e }
 {
-    let mut next = e;
-    next.width = width;
-    next.large = large;
-    next
+    Eeprom { width, large, ..e }
 }
 
 fn tells6(words: usize) -> bool
     ensures { result ≡ tells6 words }
 {
-    if words == 9 {
-        return true;
-    }
-    words == 73
+    matches!(words, 9 | 73)
 }
 
 fn tells14(words: usize) -> bool
     ensures { result ≡ tells14 words }
 {
-    if words == 17 {
-        return true;
-    }
-    words == 81
+    matches!(words, 17 | 81)
 }
 
 pub fn begin_dma(words: usize, e: Eeprom) -> Eeprom
@@ -126,34 +112,18 @@ pub fn begin_dma(words: usize, e: Eeprom) -> Eeprom
 pub fn dma_allowed(words: usize, e: Eeprom) -> bool
     ensures { result ≡ (dma_question words e).yes }
 {
-    if !tells6(words) {
-        return true;
-    }
-    let phase = e.phase;
-    if !phases::is_address(phase) {
-        return true;
-    }
-    e.count < 6
-}
-
-// The chip with phase, count, block, read place and acc anew.
-fn serial(e: Eeprom, phase: EepromPhase, count: u8, block: u16, place: u8, acc: u64) -> Eeprom
-    ensures { result ≡ serial e phase count block place acc }
-{
-    Eeprom {
-        width: e.width,
-        large: e.large,
-        phase: phase,
-        count: count,
-        block: block,
-        place: place,
-        acc: acc,
-    }
+    !tells6(words) || !phases::is_address(e.phase) || e.count < 6
 }
 
 // A read is over or abandoned.
 fn ended(e: Eeprom) -> Eeprom
     ensures { result ≡ ended e }
 {
-    serial(e, EepromPhase::Opcode, 0, e.block, 0, 0)
+    Eeprom {
+        phase: EepromPhase::Opcode,
+        count: 0,
+        place: 0,
+        acc: 0,
+        ..e
+    }
 }

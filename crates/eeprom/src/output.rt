@@ -3,7 +3,7 @@ ghost use Rattle.std.specs.Prelude.{◌≡◌, true, ◌+◌, ◌*◌, ◌<◌, 
 ghost use Rattle.eeprom.specs.Eeprom.{bit_of_block, read_bit, drawn_by, after_read};
 
 use crate::phases::is_reading;
-use crate::{Drawn, Eeprom, EepromPhase, ended, serial};
+use crate::{Drawn, Eeprom, EepromPhase, ended};
 
 // Bit i of a block, highest bit of the first byte first.
 fn bit_of_block(memory: &[u8], block: usize, i: usize) -> u8
@@ -19,8 +19,7 @@ pub fn read_bit(present: bool, e: Eeprom, memory: &[u8]) -> u8
     requires { (e.place < 68) × (present ≡ true → 8 * e.block + 8 ≤ length memory.now) }
     ensures { result ≡ read_bit present e memory.now }
 {
-    let phase = e.phase;
-    if !is_reading(phase) {
+    if !is_reading(e.phase) {
         return 1;
     }
     if e.place < 4 {
@@ -50,11 +49,9 @@ pub fn after_read(e: Eeprom) -> Eeprom
     requires { e.place < 68 }
     ensures { result ≡ after_read e }
 {
-    let phase = e.phase;
-    let d = draw(phase, e.place);
-    match d {
+    match draw(e.phase, e.place) {
         Drawn::Nothing => e,
-        Drawn::Place(place) => serial(e, phase, e.count, e.block, place, e.acc),
+        Drawn::Place(place) => Eeprom { place, ..e },
         Drawn::Ended => ended(e),
     }
 }

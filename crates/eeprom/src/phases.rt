@@ -7,57 +7,28 @@ use crate::EepromPhase;
 fn is_opcode(phase: EepromPhase) -> bool
     ensures { result ≡ is_opcode phase }
 {
-    match phase {
-        EepromPhase::Opcode => true,
-        EepromPhase::ReadAddress => false,
-        EepromPhase::WriteAddress => false,
-        EepromPhase::WriteData => false,
-        EepromPhase::ReadStop => false,
-        EepromPhase::WriteStop => false,
-        EepromPhase::Reading => false,
-    }
+    matches!(phase, EepromPhase::Opcode)
 }
 
 pub fn is_address(phase: EepromPhase) -> bool
     ensures { result ≡ is_address phase }
 {
-    match phase {
-        EepromPhase::ReadAddress => true,
-        EepromPhase::WriteAddress => true,
-        EepromPhase::Opcode => false,
-        EepromPhase::WriteData => false,
-        EepromPhase::ReadStop => false,
-        EepromPhase::WriteStop => false,
-        EepromPhase::Reading => false,
-    }
+    matches!(
+        phase,
+        EepromPhase::ReadAddress | EepromPhase::WriteAddress
+    )
 }
 
 fn is_data(phase: EepromPhase) -> bool
     ensures { result ≡ is_data phase }
 {
-    match phase {
-        EepromPhase::WriteData => true,
-        EepromPhase::Opcode => false,
-        EepromPhase::ReadAddress => false,
-        EepromPhase::WriteAddress => false,
-        EepromPhase::ReadStop => false,
-        EepromPhase::WriteStop => false,
-        EepromPhase::Reading => false,
-    }
+    matches!(phase, EepromPhase::WriteData)
 }
 
 pub fn is_reading(phase: EepromPhase) -> bool
     ensures { result ≡ is_reading phase }
 {
-    match phase {
-        EepromPhase::Reading => true,
-        EepromPhase::Opcode => false,
-        EepromPhase::ReadAddress => false,
-        EepromPhase::WriteAddress => false,
-        EepromPhase::WriteData => false,
-        EepromPhase::ReadStop => false,
-        EepromPhase::WriteStop => false,
-    }
+    matches!(phase, EepromPhase::Reading)
 }
 
 // The count of a phase stays below this number. By tests: the compiler makes a jump table of a match.

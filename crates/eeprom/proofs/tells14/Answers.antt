@@ -1,11 +1,12 @@
+use native.Mathlib.Omega.{arith}
 use Rattle.lists.proofs.Bools.{tests}
 use Rattle.eeprom.specs.Eeprom.{tells14}
 use Rattle.eeprom.proofs.tells14.Goals as goal
 
-pub returns-then-words-eq17 : goal.returns-then-words-eq17
+pub returns-in-17 : goal.returns-in-17
 unfolding tells14
-returns-then-words-eq17 c = search tests
+returns-in-17 c = grind (arith, tests)
 
-pub returns : goal.returns
+pub returns-in_default : goal.returns-in_default
 unfolding tells14
-returns c = search tests
+returns-in_default c = grind (arith, tests)

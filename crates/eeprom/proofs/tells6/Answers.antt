@@ -1,11 +1,12 @@
+use native.Mathlib.Omega.{arith}
 use Rattle.lists.proofs.Bools.{tests}
 use Rattle.eeprom.specs.Eeprom.{tells6}
 use Rattle.eeprom.proofs.tells6.Goals as goal
 
-pub returns-then-words-eq9 : goal.returns-then-words-eq9
+pub returns-in-9 : goal.returns-in-9
 unfolding tells6
-returns-then-words-eq9 c = search tests
+returns-in-9 c = grind (arith, tests)
 
-pub returns : goal.returns
+pub returns-in_default : goal.returns-in_default
 unfolding tells6
-returns c = search tests
+returns-in_default c = grind (arith, tests)

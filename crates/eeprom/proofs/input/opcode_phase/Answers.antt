@@ -1,4 +1,5 @@
-use borrow.Author.Tests.{ne_eqb}
+use native.Mathlib.Omega.{arith}
+use Rattle.lists.proofs.Bools.{tests}
 use Rattle.eeprom.specs.Eeprom.{opcode_phase}
 use Rattle.eeprom.proofs.input.opcode_phase.Goals as goal
 
@@ -12,4 +13,4 @@ returns-in-2 c = rw c.in-2.is
 
 pub returns-in_default : goal.returns-in_default
 unfolding opcode_phase
-returns-in_default c = rw (ne_eqb _ _ c.in_default.in_default-own.rest.0.1, ne_eqb _ _ c.in_default.in_default-own.rest.1)
+returns-in_default c = grind (arith, tests)

@@ -36,7 +36,7 @@ returns-in-WriteData c =
 pub returns-in-ReadStop : goal.returns-in-ReadStop
 returns-in-ReadStop c =
     let a = c.args in
-    in-phase ReadStop a.e a.acc a.b c.in-ReadStop.is (c.kept.ensures ∙ ap kept c.serial.ensures)
+    in-phase ReadStop a.e a.acc a.b c.in-ReadStop.is c.kept.ensures
 
 pub returns-in-WriteStop : goal.returns-in-WriteStop
 returns-in-WriteStop c =

@@ -6,14 +6,14 @@ use Rattle.eeprom.proofs.output.after_read.Goals as goal
 pub returns-in-Nothing : goal.returns-in-Nothing
 returns-in-Nothing c =
     let e = c.args.e in
-    ap (drawn_from e) (sym c.in-Nothing.is ∙ c.draw-d.ensures) ∙ after-drawn e
+    ap (drawn_from e) (sym c.in-Nothing.is ∙ c.draw.ensures) ∙ after-drawn e
 
 pub returns-in-Place : goal.returns-in-Place
 returns-in-Place c =
     let e = c.args.e in
-    c.serial.ensures ∙ ap (drawn_from e) (sym c.in-Place.is ∙ c.draw-d.ensures) ∙ after-drawn e
+    ap (drawn_from e) (sym c.in-Place.is ∙ c.draw.ensures) ∙ after-drawn e
 
 pub returns-in-Ended : goal.returns-in-Ended
 returns-in-Ended c =
     let e = c.args.e in
-    c.ended.ensures ∙ ap (drawn_from e) (sym c.in-Ended.is ∙ c.draw-d.ensures) ∙ after-drawn e
+    c.ended.ensures ∙ ap (drawn_from e) (sym c.in-Ended.is ∙ c.draw.ensures) ∙ after-drawn e
