@@ -19,6 +19,7 @@ fn kept(e: Eeprom) -> EepromStep
 }
 
 // One bit of a number of 1, 2, 6, 14 or 64.
+#[tactic(auto, using(lists::proofs::Bools::tests, crate::proofs::Bits::put_in), unfolding(crate::specs::Eeprom::shift_in))]
 fn shift_in(acc: u64, count: u8, length: u8, b: u64) -> Shifted
     requires { (count < 255) × (b < 2) }
     ensures { result ≡ shift_in acc count length b }
@@ -58,6 +59,7 @@ fn entered(e: Eeprom, phase: EepromPhase, block: u16) -> Eeprom
     }
 }
 
+#[tactic(auto, using(lists::proofs::Bools::tests), unfolding(crate::specs::Eeprom::opcode_phase))]
 fn opcode_phase(acc: u64) -> EepromPhase
     ensures { result ≡ opcode_phase acc }
 {
@@ -76,6 +78,7 @@ fn decoded(e: Eeprom, acc: u64) -> EepromStep
 }
 
 // The Opcode step.
+#[tactic(auto, unfolding(crate::specs::Eeprom::opcode_bit))]
 fn opcode_bit(e: Eeprom, b: u64) -> EepromStep
     requires { (e.count < 255) × (b < 2) }
     ensures { result ≡ opcode_bit e b }
@@ -104,6 +107,7 @@ fn word_in(e: Eeprom, acc: u64) -> EepromStep
 }
 
 // What the last bit of a phase leads to; acc is the whole number.
+#[tactic(auto, unfolding(crate::specs::Eeprom::turned))]
 pub fn turn(e: Eeprom, acc: u64, b: u64) -> EepromStep
     requires { b < 2 }
     ensures { result ≡ turned e acc b }
@@ -113,7 +117,11 @@ pub fn turn(e: Eeprom, acc: u64, b: u64) -> EepromStep
         EepromPhase::ReadAddress => addressed(EepromPhase::ReadStop, e, acc),
         EepromPhase::WriteAddress => addressed(EepromPhase::WriteData, e, acc),
         EepromPhase::WriteData => word_in(e, acc),
-        EepromPhase::ReadStop => kept(Eeprom { phase: EepromPhase::Reading, place: 0, ..e }),
+        EepromPhase::ReadStop => kept(Eeprom {
+            phase: EepromPhase::Reading,
+            place: 0,
+            ..e
+        }),
         EepromPhase::WriteStop => kept(entered(e, EepromPhase::Opcode, e.block)),
         EepromPhase::Reading => opcode_bit(ended(e), b),
     }

@@ -30,6 +30,7 @@ pub enum EepromPhase {
 #[derive(Clone, Copy)]
 pub struct Eeprom {
     // address bits that a DMA has told, 0: not told
+    // Kept: a byte of the chip record as C and old states bring it, which `width_allowed` asks.
     pub width: u8,
     pub large: bool,
     pub phase: EepromPhase,
@@ -41,6 +42,7 @@ pub struct Eeprom {
 }
 
 // One bit shifted in: more are wanted, with their count, or the number is whole.
+// Kept: both cases carry a value and neither is a failure, which Option and Result would say.
 #[derive(Clone, Copy)]
 pub enum Shifted {
     More(u64, u8),
@@ -55,6 +57,7 @@ pub struct EepromStep {
 }
 
 // What a bit out changes: nothing, the read place, or the read is over.
+// Kept: three cases, where Option has two.
 #[derive(Clone, Copy)]
 pub enum Drawn {
     Nothing,
@@ -62,6 +65,7 @@ pub enum Drawn {
     Ended,
 }
 
+#[tactic(auto, using(lists::proofs::Bools::tests), unfolding(crate::specs::Eeprom::width_allowed))]
 pub fn width_allowed(width: u8) -> bool
     ensures { result ≡ width_allowed width }
 {
@@ -69,6 +73,7 @@ pub fn width_allowed(width: u8) -> bool
 }
 
 // The address bits of the chip.
+#[tactic(auto, using(lists::proofs::Bools::tests), unfolding(crate::specs::Eeprom::w))]
 pub fn w(width: u8, large: bool) -> u8
     ensures { result ≡ w width large }
 {
@@ -84,18 +89,21 @@ pub fn told(width: u8, large: bool, e: Eeprom) -> Eeprom
     Eeprom { width, large, ..e }
 }
 
+#[tactic(auto, using(lists::proofs::Bools::tests), unfolding(crate::specs::Eeprom::tells6))]
 fn tells6(words: usize) -> bool
     ensures { result ≡ tells6 words }
 {
     matches!(words, 9 | 73)
 }
 
+#[tactic(auto, using(lists::proofs::Bools::tests), unfolding(crate::specs::Eeprom::tells14))]
 fn tells14(words: usize) -> bool
     ensures { result ≡ tells14 words }
 {
     matches!(words, 17 | 81)
 }
 
+#[tactic(auto, unfolding(crate::specs::Eeprom::begin_dma))]
 pub fn begin_dma(words: usize, e: Eeprom) -> Eeprom
     ensures { result ≡ begin_dma words e }
 {
@@ -109,6 +117,7 @@ pub fn begin_dma(words: usize, e: Eeprom) -> Eeprom
 }
 
 // Question 5.
+#[tactic(auto, unfolding(crate::specs::Eeprom::dma_question))]
 pub fn dma_allowed(words: usize, e: Eeprom) -> bool
     ensures { result ≡ (dma_question words e).yes }
 {

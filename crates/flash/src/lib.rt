@@ -29,10 +29,7 @@ pub struct FlashStep {
 pub fn state_allowed(state: u8) -> bool
     ensures { result ≡ state_allowed state }
 {
-    if state == 3 {
-        return false;
-    }
-    state <= 8
+    matches!(state, 0..=2 | 4..=8)
 }
 
 // Where an address leads in a memory of n bytes. Only a chip with one bank in bank 1 pays for a division.

@@ -29,12 +29,8 @@ fn step_to(state: u8, bank: u8, id: bool, store: Store) -> FlashStep
     ensures { result ≡ step_to state bank id store }
 {
     FlashStep {
-        flash: Flash {
-            state: state,
-            bank: bank,
-            id: id,
-        },
-        store: store,
+        flash: Flash { state, bank, id },
+        store,
     }
 }
 
