@@ -13,6 +13,7 @@ pub fn start(matcher: &mut MatcherBytes) -> u32
     0
 }
 
+#[tactic(auto, using(lists::proofs::Bools::tests), unfolding(crate::specs::Calls::feeds))]
 pub fn feed(matcher: &mut MatcherBytes, piece: &[u8], done: &mut u32) -> u32
     ensures { (result, matcher.new, done.new)
         ≡ feeds matcher.old piece.now done.old }
@@ -20,13 +21,13 @@ pub fn feed(matcher: &mut MatcherBytes, piece: &[u8], done: &mut u32) -> u32
     if !is_matcher(matcher) {
         return 2;
     }
-    let fed = matcher::feed(matcher_of(matcher), piece);
-    let next = fed.matcher;
+    let next = matcher::feed(matcher_of(matcher), piece).matcher;
     *matcher = matcher_bytes(next);
     *done = lists::bit(next.sram) as u32;
     0
 }
 
+#[tactic(auto, using(lists::proofs::Bools::tests), unfolding(crate::specs::Calls::finishes))]
 pub fn finish(matcher: &MatcherBytes, header: &[u8], length: usize, kind: &mut u32) -> u32
     ensures { (result, kind.new)
         ≡ answered_at (finishes matcher.now header.now length) kind.old }
