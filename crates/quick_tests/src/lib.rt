@@ -13,6 +13,7 @@ ghost use Rattle.quick_tests.specs.QuickTests.{is_known, FieldsUsual, SerialRest
 use c_record::{RecordBytes, layout};
 
 // Kind and image length are allowed, and the part is the usual one: a test of the others would make every call longer.
+#[tactic(auto, using(crate::proofs::QuickTests::knows))]
 pub fn known(cart: &RecordBytes) -> bool
     ensures value { result ≡ is_known cart.now }
     ensures valid { is_record cart.now ≡ true → Valid cart.now }
@@ -49,6 +50,7 @@ fn serial_rests(cart: &RecordBytes) -> bool
 
 // For the byte calls: the serial chip is at rest. The state is asked before what the read goes on with is loaded:
 // later, no register is free for its two comparisons.
+#[tactic(auto, using(crate::proofs::QuickTests::rests))]
 pub fn bytes_usual(cart: &RecordBytes) -> bool
     ensures { result ≡ true → is_known cart.now ≡ true
         → is_record cart.now ≡ true }
@@ -66,6 +68,7 @@ pub fn bytes_usual(cart: &RecordBytes) -> bool
 }
 
 // The flash chip is at rest, and the serial chip's fields are allowed, phase and count left out.
+#[tactic(auto, using(crate::proofs::QuickTests::rests))]
 fn fields_usual(cart: &RecordBytes) -> bool
     ensures { result ≡ true → FieldsUsual cart.now }
 {
@@ -113,6 +116,7 @@ fn count_usual(phase: u8, count: u8, width: u8) -> bool
 }
 
 // For the serial calls: the flash chip is at rest.
+#[tactic(auto, using(crate::proofs::QuickTests::rests))]
 pub fn serial_usual(cart: &RecordBytes) -> bool
     ensures { result ≡ true → is_known cart.now ≡ true
         → is_record cart.now ≡ true }
