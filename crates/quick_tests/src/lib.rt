@@ -4,9 +4,9 @@
 
 #![tactic(auto)]
 
-ghost use Rattle.std.specs.Prelude.{◌≡◌, Bool, true, ◌≤◌, length, get_or};
+ghost use Rattle.std.specs.Prelude.{◌≡◌, Bool, true, ◌≤◌, get_or};
 ghost use Rattle.eeprom.specs.Eeprom.{width_allowed};
-ghost use Rattle.c_record.specs.RecordBytes.{record_size, is_record, Valid};
+ghost use Rattle.c_record.specs.RecordBytes.{is_record, Valid};
 ghost use Rattle.c_record.specs.Fields.{id_at};
 ghost use Rattle.quick_tests.specs.QuickTests.{is_known, FieldsUsual, SerialRests, CountAllowed};
 
