@@ -8,7 +8,7 @@ ghost use Rattle.part.specs.Part.{id_word};
 ghost use Rattle.flash.specs.Flash.{flash_read, flash_write};
 ghost use Rattle.byte_step.specs.ByteStep.{step_to, of_flash, read_byte, write_step};
 
-use flash::Flash;
+use flash::{Flash, FlashStep};
 use kind::SaveType;
 use memory::Store;
 use part::Part;
@@ -31,6 +31,7 @@ fn read_flash(kind: SaveType, part: Part, flash: Flash, memory: &[u8], address: 
     flash::shown_byte(flash, memory, address)
 }
 
+#[tactic(auto, unfolding(crate::specs::ByteStep::read_byte))]
 pub fn read_byte(kind: SaveType, part: Part, flash: Flash, memory: &[u8], address: u32) -> u8
     requires { length memory.now ≡ memory_size kind }
     ensures { result ≡ read_byte kind part flash memory.now address }
@@ -46,24 +47,19 @@ pub fn read_byte(kind: SaveType, part: Part, flash: Flash, memory: &[u8], addres
 fn step_to(flash: Flash, sets: bool, store: Store) -> ByteStep
     ensures { result ≡ step_to flash sets store }
 {
-    ByteStep {
-        flash: flash,
-        sets: sets,
-        store: store,
-    }
+    ByteStep { flash, sets, store }
 }
 
 fn flash_step(flash: Flash, n: usize, address: u32, value: u8) -> ByteStep
     requires { 0 < n }
     ensures { result ≡ of_flash (flash_write flash n address value) }
 {
-    let t = flash::flash_write(flash, n, address, value);
-    let store = t.store;
-    let next = t.flash;
-    step_to(next, memory::stores(store), store)
+    let FlashStep { flash, store } = flash::flash_write(flash, n, address, value);
+    step_to(flash, memory::stores(store), store)
 }
 
 // In a memory of n bytes. The kinds are in groups, of which the compiler makes tests and no jump table.
+#[tactic(auto, unfolding(crate::specs::ByteStep::write_step))]
 pub fn write_byte(kind: SaveType, flash: Flash, n: usize, address: u32, value: u8) -> ByteStep
     requires { n ≡ memory_size kind }
     ensures { result ≡ write_step kind flash n address value }

@@ -5,16 +5,19 @@
 #![tactic(auto)]
 
 ghost use Rattle.std.specs.Prelude.{◌≡◌};
-ghost use Rattle.part.specs.declared.Part.TheVariants.{Usual};
 ghost use Rattle.c_record.specs.RecordBytes.{cart_of, Valid};
 ghost use Rattle.c_record.specs.Calls.{reads, writes};
 
+use byte_step::ByteStep;
 use c_record::{RecordBytes, layout};
 use memory::NO_FILE;
 use part::Part;
 
-fn read_valid(cart: &RecordBytes, memory: &[u8], address: u32, value: &mut u32) -> u32
-    requires { Valid cart.now }
+// In line at both places: with the usual part the ID words are one table by the kind, and with both tables the
+// compiler would leave the function out of `save_read`.
+#[inline(always)]
+fn read_with(cart: &RecordBytes, part: Part, memory: &[u8], address: u32, value: &mut u32) -> u32
+    requires { Valid cart.now × ((cart_of cart.now).part ≡ part) }
     ensures { (result, cart.now, memory.now, value.new)
         ≡ reads address cart.now memory.now value.old }
 {
@@ -22,13 +25,7 @@ fn read_valid(cart: &RecordBytes, memory: &[u8], address: u32, value: &mut u32) 
     if memory.len() != kind::memory_size(kind) {
         return 3;
     }
-    *value = byte_step::read_byte(
-        kind,
-        c_record::part_in(cart),
-        c_record::flash_in(cart),
-        memory,
-        address,
-    ) as u32;
+    *value = byte_step::read_byte(kind, part, c_record::flash_in(cart), memory, address) as u32;
     0
 }
 
@@ -39,28 +36,7 @@ fn read_any(cart: &RecordBytes, memory: &[u8], address: u32, value: &mut u32) ->
     if !c_record::is_record(cart) {
         return 2;
     }
-    read_valid(cart, &memory[..], address, value)
-}
-
-// With the usual part, whose ID words are one table by the kind. With both tables the compiler would leave the function
-// out of `save_read`.
-fn read_usual(cart: &RecordBytes, memory: &[u8], address: u32, value: &mut u32) -> u32
-    requires { Valid cart.now × ((cart_of cart.now).part ≡ Usual) }
-    ensures { (result, cart.now, memory.now, value.new)
-        ≡ reads address cart.now memory.now value.old }
-{
-    let kind = c_record::kind_in(cart);
-    if memory.len() != kind::memory_size(kind) {
-        return 3;
-    }
-    *value = byte_step::read_byte(
-        kind,
-        Part::Usual,
-        c_record::flash_in(cart),
-        memory,
-        address,
-    ) as u32;
-    0
+    read_with(cart, c_record::part_in(cart), memory, address, value)
 }
 
 pub fn save_read(cart: &RecordBytes, memory: &[u8], address: u32, value: &mut u32) -> u32
@@ -73,7 +49,7 @@ pub fn save_read(cart: &RecordBytes, memory: &[u8], address: u32, value: &mut u3
     if !quick_tests::bytes_usual(cart) {
         return read_any(cart, memory, address, value);
     }
-    read_usual(cart, memory, address, value)
+    read_with(cart, Part::Usual, memory, address, value)
 }
 
 // The record is updated first, so that nothing but the place stays live across an erase.
@@ -99,10 +75,12 @@ fn write_valid(
         return 16;
     }
     let flash = c_record::flash_in(cart);
-    let t = byte_step::write_byte(kind, flash, memory.len(), address, value);
-    let store = t.store;
-    let next = t.flash;
-    c_record::put_flash(cart, t.sets, next);
+    let ByteStep {
+        flash: next,
+        sets,
+        store,
+    } = byte_step::write_byte(kind, flash, memory.len(), address, value);
+    c_record::put_flash(cart, sets, next);
     *changed = memory::apply(store, &NO_FILE, memory, tallies);
     // a step that stores does not change ID mode
     if memory::stores(store) {

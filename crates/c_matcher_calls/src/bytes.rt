@@ -1,21 +1,21 @@
 // A matcher's bytes: the markers seen, then the last bytes.
-ghost use Rattle.std.specs.Prelude.{◌≡◌, length};
-ghost use Rattle.c_matcher_calls.specs.MatcherBytes.{matcher_size, matcher_bytes, matcher_of, is_matcher};
+ghost use Rattle.std.specs.Prelude.{◌≡◌};
+ghost use Rattle.c_matcher_calls.specs.MatcherBytes.{matcher_bytes, matcher_of, is_matcher};
 
 use matcher::Matcher;
 
 pub type MatcherBytes = [u8; 13];
 
 // Question 2.
-pub fn is_matcher(b: &[u8]) -> bool
-    requires { length b.now ≡ matcher_size }
+#[tactic(auto, using(crate::proofs::Spelled::asks))]
+pub fn is_matcher(b: &MatcherBytes) -> bool
     ensures { result ≡ is_matcher b.now }
 {
     (b[0] <= 1) & (b[1] <= 1) & (b[2] <= 1) & (b[3] <= 1)
 }
 
-pub fn matcher_of(b: &[u8]) -> Matcher
-    requires { length b.now ≡ matcher_size }
+#[tactic(auto, using(crate::proofs::Spelled::taken))]
+pub fn matcher_of(b: &MatcherBytes) -> Matcher
     ensures { result ≡ matcher_of b.now }
 {
     Matcher {
@@ -23,6 +23,7 @@ pub fn matcher_of(b: &[u8]) -> Matcher
         flash64: b[1] == 1,
         flash128: b[2] == 1,
         eeprom: b[3] == 1,
+        // Kept: the check does not cover `[.., last @ ..]` of an array taken by value.
         last: [b[4], b[5], b[6], b[7], b[8], b[9], b[10], b[11], b[12]],
     }
 }

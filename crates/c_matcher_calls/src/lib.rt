@@ -11,6 +11,7 @@ ghost use Rattle.c_matcher_calls.specs.Calls.{searches};
 pub use bytes::MatcherBytes;
 pub use pieces::{feed, finish, start};
 
+#[tactic(auto, using(lists::proofs::Bools::tests, crate::proofs::Answers::small), unfolding(crate::specs::Calls::searches))]
 pub fn search(image: &[u8], kind: &mut u32, handed: &mut u32) -> u32
     ensures { (result, kind.new, handed.new)
         ≡ searches image.now kind.old handed.old }
@@ -19,8 +20,7 @@ pub fn search(image: &[u8], kind: &mut u32, handed: &mut u32) -> u32
         return 1;
     }
     let found = matcher::search(image);
-    let save_type = found.kind;
-    *kind = kind::kind_number(save_type) as u32;
+    *kind = kind::kind_number(found.kind) as u32;
     *handed = found.count as u32;
     0
 }

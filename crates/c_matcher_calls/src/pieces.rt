@@ -5,6 +5,7 @@ ghost use Rattle.c_matcher_calls.specs.Calls.{starts, feeds, finishes};
 
 use crate::bytes::{MatcherBytes, is_matcher, matcher_bytes, matcher_of};
 
+#[tactic(auto, unfolding(crate::specs::Calls::starts))]
 pub fn start(matcher: &mut MatcherBytes) -> u32
     ensures { (result, matcher.new) ≡ starts }
 {
@@ -12,20 +13,21 @@ pub fn start(matcher: &mut MatcherBytes) -> u32
     0
 }
 
+#[tactic(auto, using(lists::proofs::Bools::tests), unfolding(crate::specs::Calls::feeds))]
 pub fn feed(matcher: &mut MatcherBytes, piece: &[u8], done: &mut u32) -> u32
     ensures { (result, matcher.new, done.new)
         ≡ feeds matcher.old piece.now done.old }
 {
-    if !is_matcher(&matcher[..]) {
+    if !is_matcher(matcher) {
         return 2;
     }
-    let fed = matcher::feed(matcher_of(&matcher[..]), piece);
-    let next = fed.matcher;
+    let next = matcher::feed(matcher_of(matcher), piece).matcher;
     *matcher = matcher_bytes(next);
     *done = lists::bit(next.sram) as u32;
     0
 }
 
+#[tactic(auto, using(lists::proofs::Bools::tests), unfolding(crate::specs::Calls::finishes))]
 pub fn finish(matcher: &MatcherBytes, header: &[u8], length: usize, kind: &mut u32) -> u32
     ensures { (result, kind.new)
         ≡ answered_at (finishes matcher.now header.now length) kind.old }
@@ -36,9 +38,9 @@ pub fn finish(matcher: &MatcherBytes, header: &[u8], length: usize, kind: &mut u
     if header.len() < 192 {
         return 1;
     }
-    if !is_matcher(&matcher[..]) {
+    if !is_matcher(matcher) {
         return 2;
     }
-    *kind = kind::kind_number(matcher::finish(matcher_of(&matcher[..]), header, length)) as u32;
+    *kind = kind::kind_number(matcher::finish(matcher_of(matcher), header, length)) as u32;
     0
 }

@@ -12,7 +12,7 @@ ghost use Rattle.c_record.specs.Fields.{with_serial};
 ghost use Rattle.c_record.specs.Calls.{announces, takes_bit, gives_bit};
 
 use c_record::RecordBytes;
-use eeprom::{Drawn, Eeprom, Shifted};
+use eeprom::{Drawn, Eeprom, EepromStep, Shifted};
 use memory::NO_FILE;
 
 // Takes no memory; the contract holds for any memory.
@@ -67,9 +67,10 @@ fn turn_in(
         ≡ with_count memory.old (stored (turned e acc b).store [] memory.old)
         tallies.old }
 {
-    let t = eeprom::turn(e, acc, b);
-    let store = t.store;
-    let next = t.eeprom;
+    let EepromStep {
+        eeprom: next,
+        store,
+    } = eeprom::turn(e, acc, b);
     c_record::put_eeprom(cart, memory::stores(store), next);
     memory::apply(store, &NO_FILE, memory, tallies)
 }
@@ -98,9 +99,7 @@ fn write_valid(
     }
     let b = (value % 2) as u64;
     let e = c_record::eeprom_in(cart);
-    let phase = e.phase;
-    let s = eeprom::shift(phase, e.count, eeprom::w(e.width, e.large), e.acc, b);
-    match s {
+    match eeprom::shift(e.phase, e.count, eeprom::w(e.width, e.large), e.acc, b) {
         Shifted::More(acc, count) => {
             c_record::put_shift(cart, count, acc);
             *changed = 0;
@@ -160,10 +159,8 @@ fn read_valid(cart: &mut RecordBytes, memory: &[u8], bit: &mut u32) -> u32
         return 3;
     }
     let e = c_record::eeprom_in(cart);
-    let phase = e.phase;
     *bit = eeprom::read_bit(kind::uses_eeprom(kind), e, memory) as u32;
-    let d = eeprom::draw(phase, e.place);
-    match d {
+    match eeprom::draw(e.phase, e.place) {
         Drawn::Nothing => 0,
         Drawn::Place(place) => {
             c_record::put_place(cart, place);

@@ -69,7 +69,7 @@ behind : (b : ℕ) (l : List ℕ) (n : ℕ) → 0 < n → drop (n - 1) l ≡ dro
 behind b l zero h = absurd (omega arith)
 behind b l (suc n) h = let e : suc n - 1 ≡ n = omega arith in rw e
 
-first-item : (l : List ℕ) → 0 < length l → items 0 l ≡ (record { item = item_in l; bytes = l } ∷ items 0 (drop (item_length (item_in l)) l))
+pub first-item : (l : List ℕ) → 0 < length l → items 0 l ≡ (record { item = item_in l; bytes = l } ∷ items 0 (drop (item_length (item_in l)) l))
 unfolding items
 first-item [] h = absurd (omega arith)
 first-item (b ∷ l) h =

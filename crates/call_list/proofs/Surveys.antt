@@ -1,8 +1,8 @@
 -- What a survey says of the whole list. Assumes nothing.
-use mathlib.Core.Path.{◌≡◌, refl, sym, ap, ◌∙◌}
+use mathlib.Core.Path.{◌≡◌, sym, ap, ◌∙◌}
 use mathlib.Core.Bool.{Bool, true, false, ◌&&◌, ◌||◌, and-true, and_assoc, or-false, or_assoc}
 use mathlib.Core.List.{List, [], ◌∷◌}
-use Prim.Native.Nat.{ℕ, zero, suc, ◌+◌, ◌-◌, ◌≤◌, ◌<◌}
+use Prim.Native.Nat.{ℕ, ◌+◌, ◌-◌, ◌<◌}
 use native.Mathlib.Omega.{arith}
 use lib.Dec.{leb}
 use lib.ListN.{length, take, drop}
@@ -13,26 +13,18 @@ use Rattle.call_list.specs.declared.Item.{Item}
 use Rattle.call_list.specs.declared.Survey.{Survey}
 use Rattle.call_list.specs.Items.{Place, item_in, item_length, item_room, is_item, is_write, items, good, byte_writes, room}
 use Rattle.call_list.specs.Surveys.{survey_with, surveyed, surveyed_all}
-use Rattle.call_list.proofs.Places.{next-item}
+use Rattle.call_list.proofs.Places.{first-item}
 
--- a turn of the loop, and its end
-pub survey-more : (l : List ℕ) (i n : ℕ) (item : Item) (s t whole : Survey) → i < length l → item ≡ item_in (take (length l - i) (drop i l))
-    → n ≡ item_length item → t ≡ surveyed s item → whole ≡ surveyed_all s (items 0 (drop i l)) → whole ≡ surveyed_all t (items 0 (drop (i + n) l))
+-- a turn of the loop over what is left of the list, and its end
+pub survey-more : (l : List ℕ) (n : ℕ) (item : Item) (s t whole : Survey) → 0 < length l → item ≡ item_in l → n ≡ item_length item
+    → t ≡ surveyed s item → whole ≡ surveyed_all s (items 0 l) → whole ≡ surveyed_all t (items 0 (take (length l - n) (drop n l)))
 unfolding surveyed_all
-survey-more l i n item s t whole h e k f w =
-    let d : item ≡ item_in (drop i l) = e ∙ ap item_in (rest i l) in
-    rw (f, k, d) (w ∙ ap (surveyed_all s) (next-item l i h))
+survey-more l n item s t whole h e k f w = rw (rest n l, f, k, e) (w ∙ ap (surveyed_all s) (first-item l h))
 
-none_left : (i : ℕ) (l : List ℕ) → length l ≤ i → items 0 (drop i l) ≡ []
-unfolding items
-none_left zero [] h = refl
-none_left zero (b ∷ l) h = absurd (omega arith)
-none_left (suc i) [] h = refl
-none_left (suc i) (b ∷ l) h = none_left i l (omega arith)
-
-pub survey-end : (l : List ℕ) (i : ℕ) (s whole : Survey) → length l ≤ i → whole ≡ surveyed_all s (items 0 (drop i l)) → s ≡ whole
-unfolding surveyed_all
-survey-end l i s whole h e = sym (e ∙ ap (surveyed_all s) (none_left i l h))
+pub survey-end : (l : List ℕ) (s whole : Survey) → length l ≡ 0 → whole ≡ surveyed_all s (items 0 l) → s ≡ whole
+unfolding surveyed_all items
+survey-end [] s whole h e = sym e
+survey-end (b ∷ l) s whole h e = absurd (omega arith)
 
 -- what it says of the list
 survey-good : (s : Survey) (list : List Place) → (surveyed_all s list).good ≡ (s.good && good list)

@@ -1,103 +1,39 @@
 // The item at the front of an encoded list, how many bytes it takes there, and how many its answer takes.
-ghost use Rattle.std.specs.Prelude.{◌≡◌, ◌+◌, ◌≤◌, ◌<◌, length, get_or};
-ghost use Rattle.call_list.specs.declared.Item.TheVariants.{SaveRead, SaveWrite, EepromWrite};
-ghost use Rattle.call_list.specs.declared.Item.TheVariants.{BeginDma, LoadSave, SaveData};
-ghost use Rattle.call_list.specs.Items.{high16, high32, within, item_in};
+ghost use Rattle.std.specs.Prelude.{◌≡◌, ◌+◌, ◌≤◌, ◌<◌, length};
+ghost use Rattle.call_list.specs.declared.Item.TheVariants.{LoadSave};
+ghost use Rattle.call_list.specs.Items.{within, item_in};
 ghost use Rattle.call_list.specs.Items.{item_length, item_room, ending_room};
 
 use crate::Item;
 use chip_record::STATE_SIZE;
 
-fn high16(l: &[u8]) -> u16
-    requires { 3 ≤ length l.now }
-    ensures { result ≡ high16 l.now }
+// A file of n bytes, all of which follow.
+fn load(n: usize, file: &[u8]) -> Item
+    ensures { result ≡ within n file.now (LoadSave n) }
 {
-    lists::low16(l[2], l[1])
-}
-
-fn high32(l: &[u8]) -> u32
-    requires { 5 ≤ length l.now }
-    ensures { result ≡ high32 l.now }
-{
-    lists::low32(l[4], l[3], l[2], l[1])
-}
-
-fn read_in(l: &[u8]) -> Item
-    ensures { result ≡ within 5 l.now (SaveRead (high32 l.now)) }
-{
-    if l.len() < 5 {
-        return Item::Bad;
-    }
-    Item::SaveRead(high32(l))
-}
-
-fn write_in(l: &[u8]) -> Item
-    ensures { result
-        ≡ within 6 l.now (SaveWrite (high32 l.now) (get_or l.now 5 0)) }
-{
-    if l.len() < 6 {
-        return Item::Bad;
-    }
-    Item::SaveWrite(high32(l), l[5])
-}
-
-fn bit_in(l: &[u8]) -> Item
-    ensures { result ≡ within 3 l.now (EepromWrite (high16 l.now)) }
-{
-    if l.len() < 3 {
-        return Item::Bad;
-    }
-    Item::EepromWrite(high16(l))
-}
-
-fn dma_in(l: &[u8]) -> Item
-    ensures { result ≡ within 3 l.now (BeginDma (high16 l.now)) }
-{
-    if l.len() < 3 {
-        return Item::Bad;
-    }
-    Item::BeginDma(high16(l))
-}
-
-fn load_in(l: &[u8]) -> Item
-    ensures { result
-        ≡ within (5 + high32 l.now) l.now (LoadSave (high32 l.now)) }
-{
-    if l.len() < 5 {
-        return Item::Bad;
-    }
-    let n = high32(l) as usize;
-    if l.len() - 5 < n {
+    if file.len() < n {
         return Item::Bad;
     }
     Item::LoadSave(n)
 }
 
-fn export_in(l: &[u8]) -> Item
-    ensures { result ≡ within 5 l.now (SaveData (high32 l.now)) }
-{
-    if l.len() < 5 {
-        return Item::Bad;
-    }
-    Item::SaveData(high32(l) as usize)
-}
-
+#[tactic(auto, using(lists::proofs::Bools::tests), unfolding(crate::specs::Items::item_in))]
 pub fn item_in(l: &[u8]) -> Item
     requires { 0 < length l.now }
     ensures value { result ≡ item_in l.now }
     ensures result_in_bounds { (item_length result ≤ length l.now) × (item_room result ≤ 4294967300) }
 {
-    match l[0] {
-        1 => read_in(l),
-        2 => write_in(l),
-        3 => Item::EepromRead,
-        4 => bit_in(l),
-        5 => dma_in(l),
-        6 => Item::TakeFlag,
-        7 => Item::ChipState,
-        8 => load_in(l),
-        9 => export_in(l),
-        10 => Item::Cut,
+    match l {
+        &[1, b3, b2, b1, b0, ..] => Item::SaveRead(lists::low32(b0, b1, b2, b3)),
+        &[2, b3, b2, b1, b0, value, ..] => Item::SaveWrite(lists::low32(b0, b1, b2, b3), value),
+        &[3, ..] => Item::EepromRead,
+        &[4, b1, b0, ..] => Item::EepromWrite(lists::low16(b0, b1)),
+        &[5, b1, b0, ..] => Item::BeginDma(lists::low16(b0, b1)),
+        &[6, ..] => Item::TakeFlag,
+        &[7, ..] => Item::ChipState,
+        &[8, b3, b2, b1, b0, ref file @ ..] => load(lists::low32(b0, b1, b2, b3) as usize, file),
+        &[9, b3, b2, b1, b0, ..] => Item::SaveData(lists::low32(b0, b1, b2, b3) as usize),
+        &[10, ..] => Item::Cut,
         _ => Item::Bad,
     }
 }

@@ -9,6 +9,7 @@ pub use items::{ending_room, item_in, item_length, item_room};
 pub use surveying::ask_list;
 
 // One item of an encoded list. The bytes of a file follow its length.
+// Kept: `Bad` is an item of one byte, after which the definition `items` goes on, and not a missing one.
 #[derive(Clone, Copy)]
 pub enum Item {
     SaveRead(u32),

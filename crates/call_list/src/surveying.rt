@@ -1,86 +1,24 @@
 // The questions that are asked of a list before it is played.
-ghost use Rattle.std.specs.Prelude.{◌≡◌, true, false, ◌&&◌, ◌||◌, ◌-◌, ◌≤◌};
+ghost use Rattle.std.specs.Prelude.{◌≡◌, true, false, ◌≤◌};
 ghost use Rattle.lists.specs.Questions.{asked};
-ghost use Rattle.call_list.specs.Items.{items, item_room, is_item, is_write};
+ghost use Rattle.call_list.specs.Items.{items, item_room};
 ghost use Rattle.call_list.specs.Surveys.{survey_with, surveyed, surveyed_all};
 ghost use Rattle.call_list.specs.ListQuestions.{list_questions};
 
 use crate::items::{ending_room, item_in, item_length, item_room};
 use crate::{Item, Survey};
 
-fn is_item(item: Item) -> bool
-    ensures { result ≡ is_item item }
-{
-    match item {
-        Item::SaveRead(_) => true,
-        Item::SaveWrite(_, _) => true,
-        Item::EepromRead => true,
-        Item::EepromWrite(_) => true,
-        Item::BeginDma(_) => true,
-        Item::TakeFlag => true,
-        Item::ChipState => true,
-        Item::LoadSave(_) => true,
-        Item::SaveData(_) => true,
-        Item::Cut => true,
-        Item::Bad => false,
-    }
-}
-
-fn is_write(item: Item) -> bool
-    ensures { result ≡ is_write item }
-{
-    match item {
-        Item::SaveRead(_) => false,
-        Item::SaveWrite(_, _) => true,
-        Item::EepromRead => false,
-        Item::EepromWrite(_) => false,
-        Item::BeginDma(_) => false,
-        Item::TakeFlag => false,
-        Item::ChipState => false,
-        Item::LoadSave(_) => false,
-        Item::SaveData(_) => false,
-        Item::Cut => false,
-        Item::Bad => false,
-    }
-}
-
-fn both(a: bool, b: bool) -> bool
-    ensures { result ≡ (a && b) }
-{
-    if a {
-        return b;
-    }
-    false
-}
-
-fn either(a: bool, b: bool) -> bool
-    ensures { result ≡ (a || b) }
-{
-    if a {
-        return true;
-    }
-    b
-}
-
-fn room_after(left: usize, n: usize) -> usize
-    ensures { result ≡ left - n }
-{
-    if left < n {
-        return 0;
-    }
-    left - n
-}
-
+#[tactic(auto, unfolding(crate::specs::Surveys::surveyed))]
 fn surveyed(s: Survey, item: Item) -> Survey
     requires { item_room item ≤ 18446744073709551615 }
     ensures { result ≡ surveyed s item }
 {
     let n = item_room(item);
     Survey {
-        good: both(s.good, is_item(item)),
-        writes: either(s.writes, is_write(item)),
-        fits: both(s.fits, n <= s.left),
-        left: room_after(s.left, n),
+        good: s.good && !matches!(item, Item::Bad),
+        writes: s.writes || matches!(item, Item::SaveWrite(_, _)),
+        fits: s.fits && n <= s.left,
+        left: s.left.saturating_sub(n),
     }
 }
 
@@ -92,13 +30,13 @@ fn survey(list: &[u8], left: usize) -> Survey
         good: true,
         writes: false,
         fits: true,
-        left: left,
+        left,
     };
-    let mut i = 0;
-    while i < list.len() {
-        let item = item_in(&list[i..]);
+    let mut rest = list;
+    while !rest.is_empty() {
+        let item = item_in(rest);
         s = surveyed(s, item);
-        i += item_length(item);
+        rest = &rest[item_length(item)..];
     }
     s
 }
@@ -109,11 +47,11 @@ pub fn ask_list(list: &[u8], eeprom: bool, memory: usize, scratch: usize, out: u
     ensures { result ≡ asked (list_questions (items 0 list.now) eeprom memory scratch out) }
 {
     let end = ending_room(memory);
-    let s = survey(list, room_after(out, end));
+    let s = survey(list, out.saturating_sub(end));
     if !s.good {
         return 0xFF;
     }
-    if both(s.writes, eeprom) {
+    if s.writes && eeprom {
         return 0xFE;
     }
     if scratch < memory {

@@ -6,7 +6,7 @@ ghost use Rattle.eeprom.specs.Eeprom.{decoded, opcode_bit};
 ghost use Rattle.eeprom.specs.Eeprom.{addressed, word_in, turned, write_bit};
 
 use crate::phases::count_limit;
-use crate::{Eeprom, EepromPhase, EepromStep, Shifted, ended, serial, w};
+use crate::{Eeprom, EepromPhase, EepromStep, Shifted, ended, w};
 use memory::Store;
 
 fn kept(e: Eeprom) -> EepromStep
@@ -19,6 +19,7 @@ fn kept(e: Eeprom) -> EepromStep
 }
 
 // One bit of a number of 1, 2, 6, 14 or 64.
+#[tactic(auto, using(lists::proofs::Bools::tests, crate::proofs::Bits::put_in), unfolding(crate::specs::Eeprom::shift_in))]
 fn shift_in(acc: u64, count: u8, length: u8, b: u64) -> Shifted
     requires { (count < 255) × (b < 2) }
     ensures { result ≡ shift_in acc count length b }
@@ -42,17 +43,23 @@ pub fn shift(phase: EepromPhase, count: u8, w: u8, acc: u64, b: u64) -> Shifted
 fn more(e: Eeprom, acc: u64, count: u8) -> EepromStep
     ensures { result ≡ kept (serial e e.phase count e.block e.place acc) }
 {
-    let phase = e.phase;
-    kept(serial(e, phase, count, e.block, e.place, acc))
+    kept(Eeprom { count, acc, ..e })
 }
 
 // The start of a phase.
 fn entered(e: Eeprom, phase: EepromPhase, block: u16) -> Eeprom
     ensures { result ≡ entered e phase block }
 {
-    serial(e, phase, 0, block, e.place, 0)
+    Eeprom {
+        phase,
+        count: 0,
+        block,
+        acc: 0,
+        ..e
+    }
 }
 
+#[tactic(auto, using(lists::proofs::Bools::tests), unfolding(crate::specs::Eeprom::opcode_phase))]
 fn opcode_phase(acc: u64) -> EepromPhase
     ensures { result ≡ opcode_phase acc }
 {
@@ -71,12 +78,12 @@ fn decoded(e: Eeprom, acc: u64) -> EepromStep
 }
 
 // The Opcode step.
+#[tactic(auto, unfolding(crate::specs::Eeprom::opcode_bit))]
 fn opcode_bit(e: Eeprom, b: u64) -> EepromStep
     requires { (e.count < 255) × (b < 2) }
     ensures { result ≡ opcode_bit e b }
 {
-    let s = shift_in(e.acc, e.count, 2, b);
-    match s {
+    match shift_in(e.acc, e.count, 2, b) {
         Shifted::More(acc, count) => more(e, acc, count),
         Shifted::Full(acc) => decoded(e, acc),
     }
@@ -100,17 +107,21 @@ fn word_in(e: Eeprom, acc: u64) -> EepromStep
 }
 
 // What the last bit of a phase leads to; acc is the whole number.
+#[tactic(auto, unfolding(crate::specs::Eeprom::turned))]
 pub fn turn(e: Eeprom, acc: u64, b: u64) -> EepromStep
     requires { b < 2 }
     ensures { result ≡ turned e acc b }
 {
-    let phase = e.phase;
-    match phase {
+    match e.phase {
         EepromPhase::Opcode => decoded(e, acc),
         EepromPhase::ReadAddress => addressed(EepromPhase::ReadStop, e, acc),
         EepromPhase::WriteAddress => addressed(EepromPhase::WriteData, e, acc),
         EepromPhase::WriteData => word_in(e, acc),
-        EepromPhase::ReadStop => kept(serial(e, EepromPhase::Reading, e.count, e.block, 0, e.acc)),
+        EepromPhase::ReadStop => kept(Eeprom {
+            phase: EepromPhase::Reading,
+            place: 0,
+            ..e
+        }),
         EepromPhase::WriteStop => kept(entered(e, EepromPhase::Opcode, e.block)),
         EepromPhase::Reading => opcode_bit(ended(e), b),
     }
@@ -121,9 +132,7 @@ pub fn write_bit(e: Eeprom, b: u64) -> EepromStep
     requires { (e.count < count_limit e.phase (w_of e)) × (e.count < 255) × (b < 2) }
     ensures { result ≡ write_bit e b }
 {
-    let phase = e.phase;
-    let s = shift(phase, e.count, w(e.width, e.large), e.acc, b);
-    match s {
+    match shift(e.phase, e.count, w(e.width, e.large), e.acc, b) {
         Shifted::More(acc, count) => more(e, acc, count),
         Shifted::Full(acc) => turn(e, acc, b),
     }

@@ -9,14 +9,14 @@ mod phases;
 ghost use Rattle.std.specs.Prelude.{◌≡◌};
 ghost use Rattle.eeprom.specs.Eeprom.{width_allowed, w, told, tells6};
 ghost use Rattle.eeprom.specs.Eeprom.{tells14, begin_dma, dma_question};
-ghost use Rattle.eeprom.specs.Eeprom.{serial, ended};
+ghost use Rattle.eeprom.specs.Eeprom.{ended};
 
 pub use input::{shift, turn, write_bit};
 use memory::Store;
 pub use output::{after_read, draw, read_bit};
 pub use phases::count_limit;
 
-#[derive(Clone, Copy)]
+#[derive(Clone, Copy, PartialEq, Eq)]
 pub enum EepromPhase {
     Opcode,
     ReadAddress,
@@ -30,6 +30,7 @@ pub enum EepromPhase {
 #[derive(Clone, Copy)]
 pub struct Eeprom {
     // address bits that a DMA has told, 0: not told
+    // Kept: a byte of the chip record as C and old states bring it, which `width_allowed` asks.
     pub width: u8,
     pub large: bool,
     pub phase: EepromPhase,
@@ -41,6 +42,7 @@ pub struct Eeprom {
 }
 
 // One bit shifted in: more are wanted, with their count, or the number is whole.
+// Kept: both cases carry a value and neither is a failure, which Option and Result would say.
 #[derive(Clone, Copy)]
 pub enum Shifted {
     More(u64, u8),
@@ -55,6 +57,7 @@ pub struct EepromStep {
 }
 
 // What a bit out changes: nothing, the read place, or the read is over.
+// Kept: three cases, where Option has two.
 #[derive(Clone, Copy)]
 pub enum Drawn {
     Nothing,
@@ -62,18 +65,15 @@ pub enum Drawn {
     Ended,
 }
 
+#[tactic(auto, using(lists::proofs::Bools::tests), unfolding(crate::specs::Eeprom::width_allowed))]
 pub fn width_allowed(width: u8) -> bool
     ensures { result ≡ width_allowed width }
 {
-    match width {
-        0 => true,
-        6 => true,
-        14 => true,
-        _ => false,
-    }
+    matches!(width, 0 | 6 | 14)
 }
 
 // The address bits of the chip.
+#[tactic(auto, using(lists::proofs::Bools::tests), unfolding(crate::specs::Eeprom::w))]
 pub fn w(width: u8, large: bool) -> u8
     ensures { result ≡ w width large }
 {
@@ -86,30 +86,24 @@ pub fn w(width: u8, large: bool) -> u8
 pub fn told(width: u8, large: bool, e: Eeprom) -> Eeprom
     ensures { result ≡ told width large e }
 {
-    let mut next = e;
-    next.width = width;
-    next.large = large;
-    next
+    Eeprom { width, large, ..e }
 }
 
+#[tactic(auto, using(lists::proofs::Bools::tests), unfolding(crate::specs::Eeprom::tells6))]
 fn tells6(words: usize) -> bool
     ensures { result ≡ tells6 words }
 {
-    if words == 9 {
-        return true;
-    }
-    words == 73
+    matches!(words, 9 | 73)
 }
 
+#[tactic(auto, using(lists::proofs::Bools::tests), unfolding(crate::specs::Eeprom::tells14))]
 fn tells14(words: usize) -> bool
     ensures { result ≡ tells14 words }
 {
-    if words == 17 {
-        return true;
-    }
-    words == 81
+    matches!(words, 17 | 81)
 }
 
+#[tactic(auto, unfolding(crate::specs::Eeprom::begin_dma))]
 pub fn begin_dma(words: usize, e: Eeprom) -> Eeprom
     ensures { result ≡ begin_dma words e }
 {
@@ -123,37 +117,22 @@ pub fn begin_dma(words: usize, e: Eeprom) -> Eeprom
 }
 
 // Question 5.
+#[tactic(auto, unfolding(crate::specs::Eeprom::dma_question))]
 pub fn dma_allowed(words: usize, e: Eeprom) -> bool
     ensures { result ≡ (dma_question words e).yes }
 {
-    if !tells6(words) {
-        return true;
-    }
-    let phase = e.phase;
-    if !phases::is_address(phase) {
-        return true;
-    }
-    e.count < 6
-}
-
-// The chip with phase, count, block, read place and acc anew.
-fn serial(e: Eeprom, phase: EepromPhase, count: u8, block: u16, place: u8, acc: u64) -> Eeprom
-    ensures { result ≡ serial e phase count block place acc }
-{
-    Eeprom {
-        width: e.width,
-        large: e.large,
-        phase: phase,
-        count: count,
-        block: block,
-        place: place,
-        acc: acc,
-    }
+    !tells6(words) || !phases::is_address(e.phase) || e.count < 6
 }
 
 // A read is over or abandoned.
 fn ended(e: Eeprom) -> Eeprom
     ensures { result ≡ ended e }
 {
-    serial(e, EepromPhase::Opcode, 0, e.block, 0, 0)
+    Eeprom {
+        phase: EepromPhase::Opcode,
+        count: 0,
+        place: 0,
+        acc: 0,
+        ..e
+    }
 }

@@ -13,6 +13,7 @@ pub use writes::flash_write;
 #[derive(Clone, Copy)]
 pub struct Flash {
     // 0 to 2 and 4 to 8: how far a command has come
+    // Kept: a byte of the chip record as C and old states bring it, which `state_allowed` asks.
     pub state: u8,
     pub bank: u8,
     // ID mode
@@ -26,16 +27,15 @@ pub struct FlashStep {
     pub store: Store,
 }
 
+#[tactic(auto, using(lists::proofs::Bools::tests), unfolding(crate::specs::Flash::state_allowed))]
 pub fn state_allowed(state: u8) -> bool
     ensures { result ≡ state_allowed state }
 {
-    if state == 3 {
-        return false;
-    }
-    state <= 8
+    state != 3 && state <= 8
 }
 
 // Where an address leads in a memory of n bytes. Only a chip with one bank in bank 1 pays for a division.
+#[tactic(auto, unfolding(crate::specs::Flash::place))]
 pub fn place(flash: Flash, n: usize, address: u32) -> usize
     requires { 0 < n }
     ensures { (result ≡ place flash n address) × (result < n) }
@@ -48,16 +48,16 @@ pub fn place(flash: Flash, n: usize, address: u32) -> usize
 }
 
 // In ID mode: the maker's byte at even addresses, the device's at odd ones.
+#[tactic(auto, using(lists::proofs::Bools::tests), unfolding(crate::specs::Flash::id_byte))]
 pub fn id_byte(word: u16, address: u32) -> u8
     ensures { result ≡ id_byte word address }
 {
-    if address % 2 == 0 {
-        return (word % 256) as u8;
-    }
-    (word / 256) as u8
+    let [maker, device] = word.to_le_bytes();
+    if address % 2 == 0 { maker } else { device }
 }
 
 // The byte of the memory that the bank shows at an address.
+#[tactic(auto, unfolding(crate::specs::Flash::shown_byte))]
 pub fn shown_byte(flash: Flash, memory: &[u8], address: u32) -> u8
     requires { 0 < length memory.now }
     ensures { result ≡ shown_byte flash memory.now address }

@@ -1,6 +1,6 @@
 // Bytes written to the chip: commands, and what they end in.
 ghost use Rattle.std.specs.Prelude.{◌≡◌, ◌<◌};
-ghost use Rattle.flash.specs.Flash.{step_to, to, storing, unlock};
+ghost use Rattle.flash.specs.Flash.{to, storing, unlock};
 ghost use Rattle.flash.specs.Flash.{command, erase, flash_write};
 
 use crate::{Flash, FlashStep, place};
@@ -25,31 +25,25 @@ const ERASE_SECTOR: u8 = 0x30;
 
 const ERASE_CHIP: u8 = 0x10;
 
-fn step_to(state: u8, bank: u8, id: bool, store: Store) -> FlashStep
-    ensures { result ≡ step_to state bank id store }
-{
-    FlashStep {
-        flash: Flash {
-            state: state,
-            bank: bank,
-            id: id,
-        },
-        store: store,
-    }
-}
-
 fn to(flash: Flash, state: u8) -> FlashStep
     ensures { result ≡ to flash state }
 {
-    step_to(state, flash.bank, flash.id, Store::Nothing)
+    FlashStep {
+        flash: Flash { state, ..flash },
+        store: Store::Nothing,
+    }
 }
 
 fn storing(flash: Flash, store: Store) -> FlashStep
     ensures { result ≡ storing flash store }
 {
-    step_to(0, flash.bank, flash.id, store)
+    FlashStep {
+        flash: Flash { state: 0, ..flash },
+        store,
+    }
 }
 
+#[tactic(auto, using(lists::proofs::Bools::tests), unfolding(crate::specs::Flash::unlock))]
 fn unlock(flash: Flash, value: u8, wanted: u8, next: u8) -> FlashStep
     ensures { result ≡ unlock flash value wanted next }
 {
@@ -59,12 +53,13 @@ fn unlock(flash: Flash, value: u8, wanted: u8, next: u8) -> FlashStep
     to(flash, 0)
 }
 
+#[tactic(auto, using(lists::proofs::Bools::tests), unfolding(crate::specs::Flash::command))]
 fn command(flash: Flash, value: u8) -> FlashStep
     ensures { result ≡ command flash value }
 {
     match value {
-        ENTER_ID => step_to(0, flash.bank, true, Store::Nothing),
-        LEAVE_ID => step_to(0, flash.bank, false, Store::Nothing),
+        ENTER_ID => to(Flash { id: true, ..flash }, 0),
+        LEAVE_ID => to(Flash { id: false, ..flash }, 0),
         PROGRAM => to(flash, 4),
         SELECT_BANK => to(flash, 5),
         ERASE => to(flash, 6),
@@ -72,6 +67,7 @@ fn command(flash: Flash, value: u8) -> FlashStep
     }
 }
 
+#[tactic(auto, using(lists::proofs::Bools::tests), unfolding(crate::specs::Flash::erase))]
 fn erase(flash: Flash, at: usize, value: u8) -> FlashStep
     ensures { result ≡ erase flash at value }
 {
@@ -83,6 +79,7 @@ fn erase(flash: Flash, at: usize, value: u8) -> FlashStep
 }
 
 // A byte written to a chip whose memory has n bytes. In halves: of one match the compiler makes a jump table.
+#[tactic(auto, using(lists::proofs::Bools::tests), unfolding(crate::specs::Flash::flash_write))]
 pub fn flash_write(flash: Flash, n: usize, address: u32, value: u8) -> FlashStep
     requires { 0 < n }
     ensures { result ≡ flash_write flash n address value }
@@ -102,7 +99,13 @@ pub fn flash_write(flash: Flash, n: usize, address: u32, value: u8) -> FlashStep
             return storing(flash, Store::Byte(place(flash, n, address), value));
         }
         if state == 5 {
-            return step_to(0, value % 2, flash.id, Store::Nothing);
+            return to(
+                Flash {
+                    bank: value % 2,
+                    ..flash
+                },
+                0,
+            );
         }
         return to(flash, 0);
     }

@@ -1,7 +1,7 @@
 -- The quick tests imply question 2. Assumes nothing.
-use mathlib.Core.Path.{◌≡◌, refl, sym}
+use mathlib.Core.Path.{◌≡◌, refl}
 use mathlib.Core.Logic.{◌≢◌}
-use mathlib.Core.Bool.{Bool, true, false, cond, ◌&&◌, true≢false}
+use mathlib.Core.Bool.{Bool, true, false, cond, ◌&&◌}
 use mathlib.Core.List.{List}
 use Prim.Native.Nat.{ℕ, ◌+◌, ◌*◌, ◌≤◌, ◌<◌}
 use native.Mathlib.Omega.{arith}
@@ -22,12 +22,8 @@ use Rattle.eeprom.proofs.Sound.{limit-64}
 use Rattle.eeprom.proofs.Allowed.{w_le}
 use Rattle.chip_record.specs.ChipState.{phase_of, field_questions}
 use Rattle.c_record.specs.RecordBytes.{chip_in, cart_of, is_record}
-use Rattle.c_record.proofs.RecordBytes.{chip-at}
+use Rattle.c_record.proofs.RecordBytes.{chip-at, low-four, valid-record}
 use Rattle.quick_tests.specs.QuickTests.{is_known, FlashUsual, FieldsUsual, SerialRests, CountAllowed}
-
--- a test that says no shows nothing
-pub never : {P : Type 0} → false ≡ true → P
-never e = absurd (true≢false (sym e))
 
 -- kind, part and image length
 module _ (r : List ℕ) where
@@ -53,6 +49,9 @@ module _ (r : List ℕ) where
   pub known-usual : is_known r ≡ true → (cart_of r).part ≡ Usual
   unfolding cart_of part_of
   known-usual h = rw (zero-part h) refl
+
+-- what `known` shows, test by test
+pub ruleset knows = (low-four, valid-record, unknown-kind, unusual-part, usual-part)
 
 -- the count
 w-positive : (width : ℕ) (large : Bool) → 0 < w width large
@@ -146,3 +145,6 @@ rests-record r n f h s =
       place = omega (arith, s.place);
     })
     (count-zero (get_or r 11 0) (get_or r 12 0) (get_or r 9 0) (eqb (get_or r 10 0) 1) s.count (omega (arith, s.phase)))
+
+-- what the tests of the other fields show
+pub ruleset rests = (flash-zero, rests-record, usual-record)

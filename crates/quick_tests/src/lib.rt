@@ -4,107 +4,92 @@
 
 #![tactic(auto)]
 
-ghost use Rattle.std.specs.Prelude.{◌≡◌, Bool, true, ◌≤◌, length, get_or};
+ghost use Rattle.std.specs.Prelude.{◌≡◌, Bool, true, ◌≤◌, get_or};
 ghost use Rattle.eeprom.specs.Eeprom.{width_allowed};
-ghost use Rattle.c_record.specs.RecordBytes.{record_size, is_record, Valid};
+ghost use Rattle.c_record.specs.RecordBytes.{is_record, Valid};
 ghost use Rattle.c_record.specs.Fields.{id_at};
 ghost use Rattle.quick_tests.specs.QuickTests.{is_known, FieldsUsual, SerialRests, CountAllowed};
 
 use c_record::{RecordBytes, layout};
 
-fn known_in(bytes: &[u8]) -> bool
-    requires { length bytes.now ≡ record_size }
-    ensures value { result ≡ is_known bytes.now }
-    ensures valid { is_record bytes.now ≡ true → Valid bytes.now }
-{
-    if 5 < bytes[layout::KIND] {
-        return false;
-    }
-    if bytes[layout::PART] != 0 {
-        return false;
-    }
-    image::image_length(lists::low32(bytes[0], bytes[1], bytes[2], bytes[3]) as usize)
-}
-
 // Kind and image length are allowed, and the part is the usual one: a test of the others would make every call longer.
+#[tactic(auto, using(crate::proofs::QuickTests::knows))]
 pub fn known(cart: &RecordBytes) -> bool
     ensures value { result ≡ is_known cart.now }
     ensures valid { is_record cart.now ≡ true → Valid cart.now }
 {
-    known_in(&cart[..])
+    if 5 < cart[layout::KIND] {
+        return false;
+    }
+    if cart[layout::PART] != 0 {
+        return false;
+    }
+    image::image_length(lists::low32(cart[0], cart[1], cart[2], cart[3]) as usize)
 }
 
 // No ID mode but 0 or 1, and the serial chip at rest.
-fn serial_rests(bytes: &[u8]) -> bool
-    requires { length bytes.now ≡ record_size }
-    ensures { result ≡ true → (get_or bytes.now id_at 0 ≤ 1)
-        × SerialRests bytes.now }
+fn serial_rests(cart: &RecordBytes) -> bool
+    ensures { result ≡ true → (get_or cart.now id_at 0 ≤ 1)
+        × SerialRests cart.now }
 {
     lists::low64(
         lists::low32(
-            bytes[layout::ID_MODE],
-            bytes[layout::WIDTH],
-            bytes[layout::LARGE],
-            bytes[layout::PHASE],
+            cart[layout::ID_MODE],
+            cart[layout::WIDTH],
+            cart[layout::LARGE],
+            cart[layout::PHASE],
         ),
         lists::low32(
-            bytes[layout::COUNT],
-            bytes[layout::BLOCK],
-            bytes[layout::BLOCK + 1],
-            bytes[layout::PLACE],
+            cart[layout::COUNT],
+            cart[layout::BLOCK],
+            cart[layout::BLOCK + 1],
+            cart[layout::PLACE],
         ),
     ) <= 1
 }
 
-// The state is asked before what the read goes on with is loaded: later, no register is free for its two comparisons.
-fn bytes_usual_in(bytes: &[u8]) -> bool
-    requires { length bytes.now ≡ record_size }
-    ensures { result ≡ true → is_known bytes.now ≡ true
-        → is_record bytes.now ≡ true }
-{
-    if 1 < bytes[layout::DIRTY] {
-        return false;
-    }
-    if !flash::state_allowed(bytes[layout::FLASH_STATE]) {
-        return false;
-    }
-    if 1 < bytes[layout::BANK] {
-        return false;
-    }
-    serial_rests(bytes)
-}
-
-// For the byte calls: the serial chip is at rest.
+// For the byte calls: the serial chip is at rest. The state is asked before what the read goes on with is loaded:
+// later, no register is free for its two comparisons.
+#[tactic(auto, using(crate::proofs::QuickTests::rests))]
 pub fn bytes_usual(cart: &RecordBytes) -> bool
     ensures { result ≡ true → is_known cart.now ≡ true
         → is_record cart.now ≡ true }
 {
-    bytes_usual_in(&cart[..])
+    if 1 < cart[layout::DIRTY] {
+        return false;
+    }
+    if !flash::state_allowed(cart[layout::FLASH_STATE]) {
+        return false;
+    }
+    if 1 < cart[layout::BANK] {
+        return false;
+    }
+    serial_rests(cart)
 }
 
 // The flash chip is at rest, and the serial chip's fields are allowed, phase and count left out.
-fn fields_usual(bytes: &[u8]) -> bool
-    requires { length bytes.now ≡ record_size }
-    ensures { result ≡ true → FieldsUsual bytes.now }
+#[tactic(auto, using(crate::proofs::QuickTests::rests))]
+fn fields_usual(cart: &RecordBytes) -> bool
+    ensures { result ≡ true → FieldsUsual cart.now }
 {
     if 1 < lists::low32(
-        bytes[layout::DIRTY],
-        bytes[layout::FLASH_STATE],
-        bytes[layout::BANK],
-        bytes[layout::ID_MODE],
+        cart[layout::DIRTY],
+        cart[layout::FLASH_STATE],
+        cart[layout::BANK],
+        cart[layout::ID_MODE],
     ) {
         return false;
     }
-    if 1 < bytes[layout::LARGE] {
+    if 1 < cart[layout::LARGE] {
         return false;
     }
-    if !eeprom::width_allowed(bytes[layout::WIDTH]) {
+    if !eeprom::width_allowed(cart[layout::WIDTH]) {
         return false;
     }
-    if 3 < bytes[layout::BLOCK + 1] {
+    if 3 < cart[layout::BLOCK + 1] {
         return false;
     }
-    bytes[layout::PLACE] <= 67
+    cart[layout::PLACE] <= 67
 }
 
 // The count is below the limit of its phase; of an address of 14 bits whose width no DMA has told, only the first six.
@@ -131,18 +116,17 @@ fn count_usual(phase: u8, count: u8, width: u8) -> bool
 }
 
 // For the serial calls: the flash chip is at rest.
+#[tactic(auto, using(crate::proofs::QuickTests::rests))]
 pub fn serial_usual(cart: &RecordBytes) -> bool
     ensures { result ≡ true → is_known cart.now ≡ true
         → is_record cart.now ≡ true }
 {
-    if !fields_usual(&cart[..]) {
-        return false;
-    }
-    count_usual(
-        cart[layout::PHASE],
-        cart[layout::COUNT],
-        cart[layout::WIDTH],
-    )
+    fields_usual(cart)
+        && count_usual(
+            cart[layout::PHASE],
+            cart[layout::COUNT],
+            cart[layout::WIDTH],
+        )
 }
 
 // Question 2, of records whose flash chip is usually at rest.
@@ -150,10 +134,5 @@ pub fn is_record(cart: &RecordBytes) -> bool
     ensures value { result ≡ is_record cart.now }
     ensures valid { is_record cart.now ≡ true → Valid cart.now }
 {
-    if known(cart) {
-        if serial_usual(cart) {
-            return true;
-        }
-    }
-    c_record::is_record(cart)
+    known(cart) && serial_usual(cart) || c_record::is_record(cart)
 }

@@ -4,8 +4,8 @@ use Rattle.lists.proofs.Bools.{granted}
 use Rattle.quick_tests.proofs.QuickTests.{known-usual}
 use Rattle.c_byte_calls.proofs.save_read.Goals as goal
 
-pub read_usual-requires : goal.read_usual-requires
-read_usual-requires c =
+pub read_with-requires : goal.read_with-requires
+read_with-requires c =
     let k = c.known.ensures in
     let y = granted _ k.value c.if-not-known.false in
     (k.valid (c.bytes_usual.ensures (granted _ refl c.if-not-bytes_usual.false) y), known-usual _ y)

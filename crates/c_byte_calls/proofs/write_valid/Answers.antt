@@ -38,7 +38,7 @@ apply-requires c =
     let a = c.args in
     let n = length a.memory.now in
     let k = c.kind_in-kind.result in
-    let e = c.if-memory-memory_size.false ∙ c.memory_size.ensures in record { tallied = omega (arith, e, c.if-tallies-memory.false, whole-stretches k); fits = subst (λ (t : ByteStep). Fits t.store n) (sym c.write_byte-t.ensures) (step_fits k _ n a.address a.value e) }
+    let e = c.if-memory-memory_size.false ∙ c.memory_size.ensures in record { tallied = omega (arith, e, c.if-tallies-memory.false, whole-stretches k); fits = subst (λ (t : ByteStep). Fits t.store n) (sym c.write_byte-sets.ensures) (step_fits k _ n a.address a.value e) }
 
 pub returns-then-stores : goal.returns-then-stores
 returns-then-stores c =
@@ -46,7 +46,7 @@ returns-then-stores c =
     let r = s.args.cart.now in
     let m = s.args.memory.now in
     let k = c.kind_in-kind.ensures in
-    let w = c.write_byte-t in
+    let w = c.write_byte-sets in
     let t = w.result in
     let e = w.ensures ∙ ap₂ (λ (x : SaveType) (y : Flash). write_step x y (length m) s.args.address s.args.value) k c.flash_in-flash.ensures in
     write-yes r m s.requires (c.if-memory-memory_size.false ∙ c.memory_size.ensures ∙ ap memory_size k) s.args.tallies.now
@@ -57,7 +57,7 @@ returns-then-stores c =
 pub put_bit-requires : goal.put_bit-requires
 put_bit-requires c =
     let s = c in
-    let t = c.write_byte-t.result in
+    let t = c.write_byte-sets.result in
     (omega arith, ap (λ (l : List ℕ). get_or l 8 0) c.put_flash.ensures ∙ id-byte s.args.cart.now s.requires t.sets t.flash ∙ ap (λ (f : Flash). bit f.id) (sym c.flash_in-flash.ensures))
 
 pub returns : goal.returns
@@ -66,7 +66,7 @@ returns c =
     let r = s.args.cart.now in
     let m = s.args.memory.now in
     let k = c.kind_in-kind.ensures in
-    let w = c.write_byte-t in
+    let w = c.write_byte-sets in
     let t = w.result in
     let e = w.ensures ∙ ap₂ (λ (x : SaveType) (y : Flash). write_step x y (length m) s.args.address s.args.value) k c.flash_in-flash.ensures in
     write-yes r m s.requires (c.if-memory-memory_size.false ∙ c.memory_size.ensures ∙ ap memory_size k) s.args.tallies.now

@@ -29,26 +29,26 @@ read_bit-requires c =
           omega (arith, b.block_ok, ap (λ (x : Eeprom). x.block) e, z, k),
     )
 
-pub draw-d-requires : goal.draw-d-requires
-draw-d-requires c =
+pub draw-requires : goal.draw-requires
+draw-requires c =
     let s = c in
     omega (arith, (allowed-bounds (cart_of s.args.cart.now) s.requires.allowed).place_ok, ap (λ (x : Eeprom). x.place) c.eeprom_in-e.ensures)
 
 pub returns-in-Nothing : goal.returns-in-Nothing
 returns-in-Nothing c =
     let s = c in
-    read-nothing s.args.cart.now s.args.memory.now s.requires (c.if-memory-memory_size.false ∙ c.memory_size.ensures ∙ ap memory_size c.kind_in-kind.ensures) s.args.bit.now _ c.eeprom_in-e.result c.draw-d.result
-    c.eeprom_in-e.ensures (c.read_bit.ensures ∙ ap₂ (λ (p : Bool) (x : Eeprom). read_bit p x c.args.memory.now) (c.uses_eeprom.ensures ∙ ap uses_eeprom c.kind_in-kind.ensures) c.eeprom_in-e.ensures) c.draw-d.ensures c.in-Nothing.is
+    read-nothing s.args.cart.now s.args.memory.now s.requires (c.if-memory-memory_size.false ∙ c.memory_size.ensures ∙ ap memory_size c.kind_in-kind.ensures) s.args.bit.now _ c.eeprom_in-e.result c.draw.result
+    c.eeprom_in-e.ensures (c.read_bit.ensures ∙ ap₂ (λ (p : Bool) (x : Eeprom). read_bit p x c.args.memory.now) (c.uses_eeprom.ensures ∙ ap uses_eeprom c.kind_in-kind.ensures) c.eeprom_in-e.ensures) c.draw.ensures c.in-Nothing.is
 
 pub returns-in-Place : goal.returns-in-Place
 returns-in-Place c =
     let s = c in
-    read-place s.args.cart.now s.args.memory.now s.requires (c.if-memory-memory_size.false ∙ c.memory_size.ensures ∙ ap memory_size c.kind_in-kind.ensures) s.args.bit.now _ c.eeprom_in-e.result c.draw-d.result
-    c.eeprom_in-e.ensures (c.read_bit.ensures ∙ ap₂ (λ (p : Bool) (x : Eeprom). read_bit p x c.args.memory.now) (c.uses_eeprom.ensures ∙ ap uses_eeprom c.kind_in-kind.ensures) c.eeprom_in-e.ensures) c.draw-d.ensures c.in-Place.place c.in-Place.is c.put_place.ensures
+    read-place s.args.cart.now s.args.memory.now s.requires (c.if-memory-memory_size.false ∙ c.memory_size.ensures ∙ ap memory_size c.kind_in-kind.ensures) s.args.bit.now _ c.eeprom_in-e.result c.draw.result
+    c.eeprom_in-e.ensures (c.read_bit.ensures ∙ ap₂ (λ (p : Bool) (x : Eeprom). read_bit p x c.args.memory.now) (c.uses_eeprom.ensures ∙ ap uses_eeprom c.kind_in-kind.ensures) c.eeprom_in-e.ensures) c.draw.ensures c.in-Place.place c.in-Place.is c.put_place.ensures
 
 pub returns-in-Ended : goal.returns-in-Ended
 returns-in-Ended c =
     let s = c in
-    read-end s.args.cart.now s.args.memory.now s.requires (c.if-memory-memory_size.false ∙ c.memory_size.ensures ∙ ap memory_size c.kind_in-kind.ensures) s.args.bit.now _ c.eeprom_in-e.result c.draw-d.result
-    c.eeprom_in-e.ensures (c.read_bit.ensures ∙ ap₂ (λ (p : Bool) (x : Eeprom). read_bit p x c.args.memory.now) (c.uses_eeprom.ensures ∙ ap uses_eeprom c.kind_in-kind.ensures) c.eeprom_in-e.ensures) c.draw-d.ensures c.in-Ended.is
+    read-end s.args.cart.now s.args.memory.now s.requires (c.if-memory-memory_size.false ∙ c.memory_size.ensures ∙ ap memory_size c.kind_in-kind.ensures) s.args.bit.now _ c.eeprom_in-e.result c.draw.result
+    c.eeprom_in-e.ensures (c.read_bit.ensures ∙ ap₂ (λ (p : Bool) (x : Eeprom). read_bit p x c.args.memory.now) (c.uses_eeprom.ensures ∙ ap uses_eeprom c.kind_in-kind.ensures) c.eeprom_in-e.ensures) c.draw.ensures c.in-Ended.is
     c.put_ended.ensures

@@ -32,8 +32,8 @@ returns-then-not-uses_eeprom c =
     write-4 s.args.cart.now s.args.memory.now s.requires (c.if-memory-memory_size.false ∙ c.memory_size.ensures ∙ ap memory_size k) s.args.tallies.now (c.if-tallies-tally_count.false ∙ c.tally_count.ensures ∙ ap tally_count k) s.args.value s.args.changed.now
     (denied _ (c.uses_eeprom.ensures ∙ ap uses_eeprom k) c.if-not-uses_eeprom.true)
 
-pub shift-s-requires : goal.shift-s-requires
-shift-s-requires c =
+pub shift-requires : goal.shift-requires
+shift-requires c =
     let s = c in
     let b = allowed-bounds (cart_of s.args.cart.now) s.requires.allowed in
     (omega (arith, b.count_ok, ap (λ (e : Eeprom). e.count) c.eeprom_in-e.ensures), omega arith)
@@ -51,8 +51,8 @@ returns-in-More c =
     let s = c in
     let k = c.kind_in-kind.ensures in
     let e = c.eeprom_in-e in
-    write-more s.args.cart.now s.args.memory.now s.requires (c.if-memory-memory_size.false ∙ c.memory_size.ensures ∙ ap memory_size k) s.args.tallies.now (c.if-tallies-tally_count.false ∙ c.tally_count.ensures ∙ ap tally_count k) s.args.value s.args.changed.now e.result c.w.result c.shift-s.result
-    (granted _ (c.uses_eeprom.ensures ∙ ap uses_eeprom k) c.if-not-uses_eeprom.false) e.ensures c.w.ensures c.shift-s.ensures (λ i. omega (arith, c.type_inv.tallies i)) c.in-More.acc c.in-More.count c.in-More.is c.put_shift.ensures
+    write-more s.args.cart.now s.args.memory.now s.requires (c.if-memory-memory_size.false ∙ c.memory_size.ensures ∙ ap memory_size k) s.args.tallies.now (c.if-tallies-tally_count.false ∙ c.tally_count.ensures ∙ ap tally_count k) s.args.value s.args.changed.now e.result c.w.result c.shift.result
+    (granted _ (c.uses_eeprom.ensures ∙ ap uses_eeprom k) c.if-not-uses_eeprom.false) e.ensures c.w.ensures c.shift.ensures (λ i. omega (arith, c.type_inv.tallies i)) c.in-More.acc c.in-More.count c.in-More.is c.put_shift.ensures
 
 pub returns-in-Full : goal.returns-in-Full
 returns-in-Full c =
@@ -60,5 +60,5 @@ returns-in-Full c =
     let k = c.kind_in-kind.ensures in
     let e = c.eeprom_in-e in
     let t = c.turn_in.ensures in
-    write-turn s.args.cart.now s.args.memory.now s.requires (c.if-memory-memory_size.false ∙ c.memory_size.ensures ∙ ap memory_size k) s.args.tallies.now (c.if-tallies-tally_count.false ∙ c.tally_count.ensures ∙ ap tally_count k) s.args.value s.args.changed.now e.result c.w.result c.shift-s.result
-    (granted _ (c.uses_eeprom.ensures ∙ ap uses_eeprom k) c.if-not-uses_eeprom.false) e.ensures c.w.ensures c.shift-s.ensures c.in-Full.acc c.in-Full.is t.cart_after t.tallies_after
+    write-turn s.args.cart.now s.args.memory.now s.requires (c.if-memory-memory_size.false ∙ c.memory_size.ensures ∙ ap memory_size k) s.args.tallies.now (c.if-tallies-tally_count.false ∙ c.tally_count.ensures ∙ ap tally_count k) s.args.value s.args.changed.now e.result c.w.result c.shift.result
+    (granted _ (c.uses_eeprom.ensures ∙ ap uses_eeprom k) c.if-not-uses_eeprom.false) e.ensures c.w.ensures c.shift.ensures c.in-Full.acc c.in-Full.is t.cart_after t.tallies_after

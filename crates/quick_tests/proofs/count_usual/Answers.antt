@@ -1,6 +1,6 @@
 -- `quick_tests::count_usual` meets its contract. Assumes nothing.
 use borrow.Author.Tests.{ltb-true, leb-true}
-use Rattle.quick_tests.proofs.QuickTests.{never, count-zero, count-data, count-opcode, count-six, count-told}
+use Rattle.quick_tests.proofs.QuickTests.{count-zero, count-data, count-opcode, count-six, count-told}
 use Rattle.quick_tests.proofs.count_usual.Goals as goal
 
 pub returns-then-count-eq0 : goal.returns-then-count-eq0
@@ -17,9 +17,6 @@ pub returns-then-phase-eq0 : goal.returns-then-phase-eq0
 returns-then-phase-eq0 c =
     let a = c.args in
     λ e w large. count-opcode a.phase a.count a.width large c.if-phase-eq0.true (ltb-true a.count 2 e)
-
-pub returns-then-phase-gt3 : goal.returns-then-phase-gt3
-returns-then-phase-gt3 c = λ e w large. never e
 
 pub returns-then-count-lt6 : goal.returns-then-count-lt6
 returns-then-count-lt6 c =

@@ -18,10 +18,10 @@ pub returns-in-More : goal.returns-in-More
 returns-in-More c =
     let x = c in
     c.more.ensures
-    ∙ taken x.args.e x.args.b x.requires.0 c.w.ensures c.shift-s.ensures c.in-More.is
+    ∙ taken x.args.e x.args.b x.requires.0 c.w.ensures c.shift.ensures c.in-More.is
 
 pub returns-in-Full : goal.returns-in-Full
 returns-in-Full c =
     let x = c in
     c.turn.ensures
-    ∙ taken x.args.e x.args.b x.requires.0 c.w.ensures c.shift-s.ensures c.in-Full.is
+    ∙ taken x.args.e x.args.b x.requires.0 c.w.ensures c.shift.ensures c.in-Full.is

@@ -1,9 +1,9 @@
--- `c_byte_calls::read_usual` meets its contract. Assumes nothing.
+-- `c_byte_calls::read_with` meets its contract. Assumes nothing.
 use mathlib.Core.Path.{sym, ap, ◌∙◌}
 use Rattle.kind.specs.Kind.{memory_size}
 use Rattle.byte_step.specs.ByteStep.{read_byte}
 use Rattle.c_byte_calls.proofs.ByteCalls.{read_no, read-yes}
-use Rattle.c_byte_calls.proofs.read_usual.Goals as goal
+use Rattle.c_byte_calls.proofs.read_with.Goals as goal
 
 pub returns-then-memory-memory_size : goal.returns-then-memory-memory_size
 returns-then-memory-memory_size c =
