@@ -1,12 +1,14 @@
 // The questions that are asked of a list before it is played.
 ghost use Rattle.std.specs.Prelude.{◌≡◌, true, false, ◌≤◌};
 ghost use Rattle.lists.specs.Questions.{asked};
+ghost use Rattle.refusal.specs.Refusals.{number_of};
 ghost use Rattle.call_list.specs.Items.{items, item_room};
 ghost use Rattle.call_list.specs.Surveys.{survey_with, surveyed, surveyed_all};
 ghost use Rattle.call_list.specs.ListQuestions.{list_questions};
 
 use crate::items::{ending_room, item_in, item_length, item_room};
 use crate::{Item, Survey};
+use refusal::Refusal;
 
 #[tactic(auto, unfolding(crate::specs::Surveys::surveyed))]
 fn surveyed(s: Survey, item: Item) -> Survey
@@ -41,27 +43,33 @@ fn survey(list: &[u8], left: usize) -> Survey
     s
 }
 
-// The number of the first question that is answered no, or 0.
-pub fn ask_list(list: &[u8], eeprom: bool, memory: usize, scratch: usize, out: usize) -> u8
+// Err is the first question that is answered no.
+pub fn ask_list(
+    list: &[u8],
+    eeprom: bool,
+    memory: usize,
+    scratch: usize,
+    out: usize,
+) -> Result<(), Refusal>
     requires { memory ≤ 131072 }
-    ensures { result ≡ asked (list_questions (items 0 list.now) eeprom memory scratch out) }
+    ensures { number_of result ≡ asked (list_questions (items 0 list.now) eeprom memory scratch out) }
 {
     let end = ending_room(memory);
     let s = survey(list, out.saturating_sub(end));
     if !s.good {
-        return 0xFF;
+        return Err(Refusal::NoList);
     }
     if s.writes && eeprom {
-        return 0xFE;
+        return Err(Refusal::ByteWrite);
     }
     if scratch < memory {
-        return 13;
+        return Err(Refusal::Destination);
     }
     if out < end {
-        return 13;
+        return Err(Refusal::Destination);
     }
     if !s.fits {
-        return 13;
+        return Err(Refusal::Destination);
     }
-    0
+    Ok(())
 }

@@ -13,7 +13,7 @@ use Rattle.cart.specs.Record.{State, Outcome, fresh_cart}
 use Rattle.cart.specs.Calls.{save_read, save_write, eeprom_begin_dma, eeprom_write, eeprom_read}
 use Rattle.cart.specs.Calls.{chip_state, take_save_dirty, step}
 use Rattle.cart.specs.Replies.{tallied}
-use Rattle.state_calls.specs.declared.StateAnswer.{StateAnswer}
+use Rattle.state_calls.specs.StateAnswer.{StateAnswer}
 use Rattle.frames.specs.declared.Frame.{Frame}
 use Rattle.frames.specs.declared.Frame.TheVariants.{SaveRead, SaveWrite, EepromRead, EepromWrite}
 use Rattle.frames.specs.declared.Frame.TheVariants.{BeginDma, TakeFlag, ChipState, Bad}

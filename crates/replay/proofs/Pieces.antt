@@ -1,30 +1,21 @@
 -- An answer put together from pieces of the output. Assumes nothing.
-use mathlib.Core.Path.{◌≡◌, sym, ap, ◌∙◌}
+use mathlib.Core.Path.{◌≡◌, ap, ◌∙◌}
 use mathlib.Core.List.{List, [], ◌∷◌, ◌++◌, append-nil}
 use Prim.Native.Nat.{ℕ, ◌+◌, ◌-◌, ◌≤◌}
 use native.Mathlib.Omega.{arith}
 use lib.ListN.{length, take, drop, set, length-take, length-drop}
-use lib.Seq.{take_at, drop_at, drop-length, length-take-le}
-use Rattle.lists.specs.Lists.{into}
-use Rattle.lists.proofs.Parts.{rest, past-rest}
+use lib.Seq.{take_at, drop_at, length-take-le}
+use Rattle.lists.proofs.Parts.{past-rest}
 
 -- a piece passed from a on to the end
 pub tail-put : (a : ℕ) (out ys : List ℕ) → take a out ++ (ys ++ drop (length out - a) (drop a out)) ≡ take a out ++ ys
 tail-put a out ys =
     rw (past-rest a out, append-nil ys)
 
--- a piece as long as what goes into it
-pub into-all : (f d : List ℕ) → length d ≡ length f → into f d ≡ f
-unfolding into
-into-all f d e = ap (λ (n : ℕ). f ++ drop n d) (sym e) ∙ rw (drop-length d) (append-nil f)
-
--- a first byte stored, and the others copied after it
-pub byte-and-copy : (out bytes o : List ℕ) (r : ℕ) → length out ≡ 21 → length bytes ≡ 20
-    → let out' = set out 0 r in o ≡ into bytes (take (length out' - 1) (drop 1 out'))
-    → take 1 out' ++ (o ++ drop (length out' - 1) (drop 1 out')) ≡ r ∷ bytes
-byte-and-copy [] bytes o r h k e = absurd (omega arith)
-byte-and-copy (b ∷ out) bytes o r h k e =
-    tail-put 1 (r ∷ out) o ∙ ap (λ (l : List ℕ). r ∷ l) (e ∙ rw (rest 1 (r ∷ out)) (into-all bytes out (omega arith)))
+-- a first byte stored, and then all that follows it
+pub byte-and-rest : (out o : List ℕ) (r : ℕ) → 1 ≤ length out → let out' = set out 0 r in take 1 out' ++ (o ++ drop (length out' - 1) (drop 1 out')) ≡ r ∷ o
+byte-and-rest [] o r h = absurd (omega arith)
+byte-and-rest (b ∷ out) o r h = tail-put 1 (r ∷ out) o
 
 -- the tail stored first, then the front
 pub front-of-tail : (out f d : List ℕ) → 5 ≤ length out → let out' = take 5 out ++ (d ++ drop (length out - 5) (drop 5 out)) in f ++ drop 5 out' ≡ f ++ d

@@ -16,7 +16,7 @@ use Rattle.cart.specs.Calls.{save_data, file_of, questions, accepted, step}
 use Rattle.cart.specs.Replies.{tallied, replied, flag_replied}
 use Rattle.cart.specs.Stretches.{with_tallies, beside_tallies}
 use Rattle.cart.proofs.Recoverable.{exported-next}
-use Rattle.state_calls.specs.declared.StateAnswer.{StateAnswer}
+use Rattle.state_calls.specs.StateAnswer.{StateAnswer}
 use Rattle.state_calls.specs.StateAnswer.{state_answered}
 use Rattle.call_list.specs.declared.Item.{Item}
 use Rattle.call_list.specs.declared.Item.TheVariants.{LoadSave, SaveData}

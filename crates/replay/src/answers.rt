@@ -1,55 +1,73 @@
 // What a call answers, as bytes. The caller's output is as long as the answer.
 ghost use Rattle.std.specs.Prelude.{◌≡◌, [], ◌∷◌, ◌+◌, ◌-◌, ◌%◌, ◌≤◌, length};
 ghost use Rattle.chip_record.specs.States.{state_size};
-ghost use Rattle.cart.specs.Replies.{state, export_replied};
+ghost use Rattle.cart.specs.declared.Cartridge.{Cartridge};
+ghost use Rattle.cart.specs.Replies.{state, reply_from, export_replied};
+ghost use Rattle.state_calls.specs.StateAnswer.{state_answer_from};
 ghost use Rattle.replay.specs.Replay.{four_bytes, file_answer, export_into};
 
 use cart::{Cartridge, Reply};
-use state_calls::StateAnswer;
+use chip_record::StateBytes;
+use refusal::Refusal;
 
-pub fn put_status(out: &mut [u8], refusal: u8)
-    requires { length out.old ≡ 1 }
-    ensures { out.new ≡ refusal ∷ [] }
+// 0, or a refusal's number.
+fn status_of(reply: Reply) -> u8
+    ensures { (cart : Cartridge) → result ≡ (reply_from cart reply).refusal }
 {
-    out[0] = refusal;
+    match reply {
+        Ok(_) => 0,
+        Err(refusal) => refusal.number(),
+    }
+}
+
+pub fn put_status(out: &mut [u8], reply: Reply)
+    requires { length out.old ≡ 1 }
+    ensures { (cart : Cartridge) → out.new ≡ (reply_from cart reply).refusal ∷ [] }
+{
+    out[0] = status_of(reply);
 }
 
 pub fn put_value(out: &mut [u8], reply: Reply)
     requires { length out.old ≡ 2 }
-    ensures { out.new ≡ reply.refusal ∷ reply.value % 256 ∷ [] }
+    ensures { (cart : Cartridge) → let r = reply_from cart reply in
+        out.new ≡ r.refusal ∷ r.value % 256 ∷ [] }
 {
-    out[0] = reply.refusal;
-    out[1] = (reply.value % 256) as u8;
+    out[0] = status_of(reply);
+    out[1] = (cart::value_of(reply) % 256) as u8;
 }
 
-pub fn put_state(out: &mut [u8], state: StateAnswer)
-    requires out_len { length out.old ≡ 1 + state_size }
-    requires bytes_len { length state.bytes ≡ state_size }
-    ensures { out.new ≡ state.refusal ∷ state.bytes }
+pub fn put_state(out: &mut [u8], state: Result<StateBytes, Refusal>)
+    requires { length out.old ≡ 1 + state_size }
+    ensures { let a = state_answer_from state in out.new ≡ a.refusal ∷ a.bytes }
 {
-    let bytes = state.bytes;
-    out[0] = state.refusal;
-    lists::copy(&mut out[1..], &bytes);
+    match state {
+        Ok(bytes) => {
+            out[0] = 0;
+            out[1..].copy_from_slice(&bytes);
+        }
+        Err(refusal) => {
+            out[0] = refusal.number();
+            out[1..].fill(0);
+        }
+    }
 }
 
 // An export into zeros.
 fn export_into(cart: Cartridge, memory: &[u8], destination: &mut [u8]) -> Reply
-    ensures { (result, destination.new)
+    ensures { (reply_from cart result, destination.new)
         ≡ export_replied (export_into (length destination.old) (state cart memory.now)) }
 {
-    lists::fill(destination, 0);
+    destination.fill(0);
     file_calls::save_data(cart, memory, destination)
 }
 
 fn put_length(out: &mut [u8], reply: Reply)
     requires { length out.old ≡ 5 }
-    ensures { out.new ≡ reply.refusal ∷ four_bytes reply.value }
+    ensures { (cart : Cartridge) → let r = reply_from cart reply in
+        out.new ≡ r.refusal ∷ four_bytes r.value }
 {
-    out[0] = reply.refusal;
-    out[1] = (reply.value / 16777216 % 256) as u8;
-    out[2] = (reply.value / 65536 % 256) as u8;
-    out[3] = (reply.value / 256 % 256) as u8;
-    out[4] = (reply.value % 256) as u8;
+    out[0] = status_of(reply);
+    out[1..].copy_from_slice(&cart::value_of(reply).to_be_bytes());
 }
 
 // The destination is the output after its first five bytes.

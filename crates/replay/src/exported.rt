@@ -1,25 +1,32 @@
 // The call of a C program, which links it by `replay_c`.
 ghost use Rattle.std.specs.Prelude.{◌≡◌, length};
 ghost use Rattle.lists.specs.Questions.{asked};
+ghost use Rattle.refusal.specs.Refusals.{number_of};
 ghost use Rattle.replay.specs.Replay.{replay_questions, replay};
 
 use crate::running::open_and_run;
+use refusal::Refusal;
 
-// The number of the first question whose answer is no, or 0.
-fn ask(image: &[u8], part: u32, list: &[u8], memory: &[u8], scratch: usize, out: usize) -> u8
-    ensures { result
+// Err is the first question whose answer is no.
+fn ask(
+    image: &[u8],
+    part: u32,
+    list: &[u8],
+    memory: &[u8],
+    scratch: usize,
+    out: usize,
+) -> Result<(), Refusal>
+    ensures { number_of result
         ≡ asked (replay_questions image.now part list.now
         memory.now scratch out) }
 {
-    if !image::image_length(image.len()) {
-        return 1;
-    }
+    image::ask_length(image.len())?;
     let kind = matcher::detect_save_type(image);
     if memory.len() != kind::memory_size(kind) {
-        return 3;
+        return Err(Refusal::MemoryLength);
     }
     if !part::number_fits(part, kind) {
-        return 15;
+        return Err(Refusal::Part);
     }
     call_list::ask_list(list, kind::uses_eeprom(kind), memory.len(), scratch, out)
 }
@@ -44,13 +51,12 @@ pub fn gbasave_replay(
         ≡ replay image.now part list.now
         memory.old scratch.old out.old }
 {
-    let refusal = ask(image, part, list, memory, scratch.len(), out.len());
-    if refusal != 0 {
-        return refusal as u32;
+    if let Err(refusal) = ask(image, part, list, memory, scratch.len(), out.len()) {
+        return u32::from(refusal.number());
     }
     let mut tallies = room();
     let n = memory.len() / 4096;
     open_and_run(image, part, list, memory, &mut tallies[..n], scratch, out);
-    lists::fill(scratch, 0);
+    scratch.fill(0);
     0
 }

@@ -44,6 +44,7 @@ fn run(
     let mut cart = fresh;
     let mut at = 0;
     let mut i = 0;
+    // Kept: only the item at a place tells where the next one and its answer begin, so no iterator has the places.
     while i < list.len() {
         let item = call_list::item_in(&list[i..]);
         let end = at + call_list::item_room(item);
@@ -84,6 +85,6 @@ pub fn open_and_run(
         out.old }
 {
     let opened = state_calls::from_number(image, part, memory, tallies);
-    let cart = opened.cart;
+    let cart = cart::record_after(state_calls::no_cart(), opened);
     run(image, part, list, cart, memory, tallies, scratch, out);
 }

@@ -1,6 +1,7 @@
 use mathlib.Core.Path.{refl, ap, sym, ◌∙◌}
 use mathlib.Core.List.{[]}
 use lib.ListN.{length}
+use Prim.Native.Nat.{ℕ}
 use Rattle.lists.specs.Lists.{into}
 use Rattle.chip_record.specs.States.{eighteen_of}
 use Rattle.cart.specs.Calls.{save_read, eeprom_read, eeprom_begin_dma, take_save_dirty, chip_state, step}
@@ -8,6 +9,7 @@ use Rattle.cart.specs.Replies.{state, tallied, replied, flag_replied}
 use Rattle.cart.proofs.Stretches.{stretches}
 use Rattle.state_calls.specs.StateAnswer.{state_answer, or_zeros}
 use Rattle.frames.specs.declared.Frame.{Frame}
+use Rattle.frames.specs.declared.Frame.TheVariants.{BeginDma}
 use Rattle.frames.specs.Frames.{line_of}
 use Rattle.carttrace_lib.specs.Trace.{play, status_line, value_line, state_line, shown, played_with}
 use Rattle.carttrace_lib.proofs.Answers.{beside, shows, read-line, write-line, dma-line, bit-in-line, bit-out-line, record-line}
@@ -56,7 +58,8 @@ returns-in-BeginDma c =
     let m = a.memory.now in
     let ts = a.tallies.now in
     let s = tallied a.cart m ts in
-    shows status_line (λ r. r.cart) a.out.now (beside replied (eeprom_begin_dma c.in-BeginDma.words) a.cart m ts (λ o. refl) refl (c.eeprom_begin_dma.ensures m)) c.show_status-in-BeginDma.ensures (dma-line c.in-BeginDma.words s)
+    shows status_line (λ r. r.cart) a.out.now (beside replied (eeprom_begin_dma c.from.result) a.cart m ts (λ o. refl) refl (c.eeprom_begin_dma.ensures m)) c.show_status-in-BeginDma.ensures (dma-line c.from.result s)
+    ∙ ap (λ (n : ℕ). shown (play (BeginDma n) s) a.out.now) c.from.ensures
     ∙ ap (λ (f : Frame). shown (play f s) a.out.now) (sym c.in-BeginDma.is)
 
 pub returns-in-TakeFlag : goal.returns-in-TakeFlag

@@ -20,7 +20,7 @@ pub returns : goal.returns
 returns c = let a = c.args in
     let e = c.export_into-exported.ensures in record {
       out_after = front-of-tail a.out.now c.put_length.new.out c.export_into-exported.new.destination c.requires
-          ∙ (λ i. c.put_length.ensures i ++ c.export_into-exported.new.destination)
+          ∙ (λ i. c.put_length.ensures a.cart i ++ c.export_into-exported.new.destination)
           ∙ (λ i. ((e i).0.refusal ∷ four_bytes (e i).0.value) ++ (e i).1)
           ∙ ap (λ (n : ℕ). (file_answer (step save_data (replicate n 0) (state a.cart a.memory.now))).bytes) (length_rest 5 a.out.now);
       out_len_unchanged = search rules;

@@ -1,26 +1,17 @@
-use mathlib.Core.Path.{◌≡◌, ap, ◌∙◌}
-use mathlib.Core.List.{◌∷◌}
-use lib.ListN.{length}
-use lib.ListN.{length-drop}
-use Rattle.lists.proofs.Parts.{rest}
-use Rattle.replay.proofs.Pieces.{byte-and-copy}
-use native.Mathlib.Omega.{arith}
-use lib.ListN.{length-set}
+use Rattle.std.proofs.Common.{◌≡◌, ℕ, ◌-◌, List, ◌∷◌, ap, arith, replicate, length, ◌∙◌}
+use lib.ListN.{set, length-set}
+use Rattle.lists.proofs.Parts.{length_rest}
+use Rattle.replay.proofs.Pieces.{byte-and-rest}
 use Rattle.replay.proofs.answers.put_state.Goals as goal
 
-pub slice_bounds-copy-count : goal.slice_bounds-copy-count
-slice_bounds-copy-count c = simp length-set (omega (arith, c.requires.out_len))
+pub returns-in-Ok : goal.returns-in-Ok
+returns-in-Ok c =
+    rw c.in-Ok.is (byte-and-rest c.args.out.now c.copy_from_slice.new.self 0 (omega (arith, c.requires)) ∙ ap (λ (l : List ℕ). 0 ∷ l) c.copy_from_slice.ensures.after)
 
-pub slice_bounds-copy-start : goal.slice_bounds-copy-start
-slice_bounds-copy-start c = simp length-set (omega (arith, c.requires.out_len))
-
-pub copy-requires : goal.copy-requires
-copy-requires c = rw (rest 1 _) (simp (length-drop, length-set) (omega (arith, c.requires.out_len, c.requires.bytes_len)))
-
-pub shape_of-out : goal.shape_of-out
-shape_of-out c = let a = c.args in
-    let n : length (a.state.refusal ∷ a.state.bytes) ≡ length a.out.now = omega (arith, c.requires.out_len, c.requires.bytes_len) in
-    ap length (byte-and-copy a.out.now a.state.bytes c.copy.new.s a.state.refusal c.requires.out_len c.requires.bytes_len c.copy.ensures) ∙ n
-
-pub returns : goal.returns
-returns c = byte-and-copy c.args.out.now c.args.state.bytes c.copy.new.s c.args.state.refusal c.requires.out_len c.requires.bytes_len c.copy.ensures
+pub returns-in-Err : goal.returns-in-Err
+returns-in-Err c =
+    let n = c.number.result in
+    let out = set c.args.out.now 0 n in
+    let q : length out - 1 ≡ 20 = simp length-set (omega (arith, c.requires)) in
+    let f = c.fill.ensures.after (λ y e. e) ∙ ap (λ (k : ℕ). replicate k 0) (length_rest 1 out ∙ q) in
+    rw c.in-Err.is (byte-and-rest c.args.out.now c.fill.new.self n (omega (arith, c.requires)) ∙ (λ i. c.number.ensures i ∷ f i))

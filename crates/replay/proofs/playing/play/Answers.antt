@@ -8,10 +8,10 @@ use Rattle.cart.specs.Calls.{save_read, eeprom_begin_dma, eeprom_read, load_save
 use Rattle.cart.specs.Replies.{state, tallied}
 use Rattle.cart.proofs.Stretches.{stretches}
 use Rattle.call_list.specs.declared.Item.{Item}
+use Rattle.call_list.specs.declared.Item.TheVariants.{BeginDma}
 use Rattle.call_list.specs.Items.{item_room}
 use Rattle.replay.specs.Replay.{status_answer, value_answer, flag_answer, record_answer, file_answer, left, play, cut_at}
 use Rattle.replay.proofs.Shown.{shows-status, beside, shows-value, shows-flag, shows-state, export-next, nothing, load-ends, loaded-part, file-room}
-use borrow.Author.Rules.{rules}
 use Rattle.replay.proofs.playing.play.Goals as goal
 
 pub show_value-requires : goal.show_value-requires
@@ -33,10 +33,10 @@ pub show_value-requires-in-TakeFlag : goal.show_value-requires-in-TakeFlag
 show_value-requires-in-TakeFlag c = c.requires.out_len ∙ ap item_room c.in-TakeFlag.is
 
 pub put_state-requires : goal.put_state-requires
-put_state-requires c = record { out_len = c.requires.out_len ∙ ap item_room c.in-ChipState.is; bytes_len = search rules }
+put_state-requires c = c.requires.out_len ∙ ap item_room c.in-ChipState.is
 
-pub overflow_add-end : goal.overflow_add-end
-overflow_add-end c = record { fits = omega (arith, load-ends c.args.item _ (length c.args.list.now) c.in-LoadSave.is c.requires.item_in_bounds, c.well_formed) }
+pub overflow_add-n : goal.overflow_add-n
+overflow_add-n c = record { fits = omega (arith, load-ends c.args.item _ (length c.args.list.now) c.in-LoadSave.is c.requires.item_in_bounds, c.well_formed) }
 
 pub slice_bounds-load_save-end : goal.slice_bounds-load_save-end
 slice_bounds-load_save-end c = load-ends c.args.item _ (length c.args.list.now) c.in-LoadSave.is c.requires.item_in_bounds
@@ -92,7 +92,8 @@ returns-in-BeginDma c = let a = c.args in
     let u = state a.cart a.memory.now in
     let s = tallied a.cart a.memory.now ts in
     shows-status (beside ts (c.eeprom_begin_dma.ensures a.memory.now)) c.show_status-in-BeginDma.ensures
-    ∙ ap (λ (o : Outcome). left (status_answer o)) (sym (stretches.apart ts (eeprom_begin_dma c.in-BeginDma.words) [] u refl))
+    ∙ ap (λ (o : Outcome). left (status_answer o)) (sym (stretches.apart ts (eeprom_begin_dma c.from.result) [] u refl))
+    ∙ ap (λ (n : ℕ). left (play (cut_at a.image.now a.part) (BeginDma n) a.list.now s)) c.from.ensures
     ∙ ap (λ (i : Item). left (play (cut_at a.image.now a.part) i a.list.now s)) (sym c.in-BeginDma.is)
 
 pub returns-in-TakeFlag : goal.returns-in-TakeFlag
