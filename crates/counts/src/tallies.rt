@@ -13,6 +13,7 @@ pub fn clear(tallies: &mut [u16])
 }
 
 // A stretch's tally after a store, by the bytes in use before it and after it.
+#[tactic(auto, unfolding(crate::specs::Tallies::retally))]
 pub fn retally(tally: u16, before: u32, after: u32) -> u16
     requires { (before ≤ 4096) × (after ≤ 4096) }
     ensures { result ≡ retally before after tally }
