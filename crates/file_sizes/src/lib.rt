@@ -11,7 +11,8 @@ pub use doubled::file_door;
 use kind::SaveType;
 
 // Accepted file sizes by kind number, without a footer: the smaller and the larger.
-const FILE_SIZES: [(usize, usize); 6] = [
+// It is a static, since a read of a constant would copy it whole.
+static FILE_SIZES: [(usize, usize); 6] = [
     (0, 0),
     (32768, 65536),
     (65536, 65536),
