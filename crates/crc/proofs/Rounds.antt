@@ -9,7 +9,7 @@ use lib.Seq.{drop-drop}
 use Rattle.lists.specs.Lists.{fold}
 use Rattle.lists.proofs.Parts.{spells}
 use Rattle.crc.specs.Crc.{crc_bits, crc_byte}
-use Rattle.crc.specs.Lanes.{each, lane, lane_ends, word_at, words_in, bytes_out}
+use Rattle.crc.specs.Lanes.{lane, lane_ends, word_at, words_in, bytes_out}
 use Rattle.crc.proofs.Folds.{fold-take}
 use Rattle.crc.proofs.Polynomial.{xor_assoc, bits-xor, bits-zero}
 
@@ -49,14 +49,6 @@ lane-on x s a i b h =
     word_below v (get_or s p 0) (get_or s (p + 1) 0) (get_or s (p + 2) 0) (get_or s (p + 3) 0) (b p) (b (p + 1)) (b (p + 2))
     ∙ ap (λ (l : List ℕ). fold crc_byte v l) (sym (ap (take 4) (drop-drop i a s) ∙ t))
     ∙ fold-take crc_byte x (drop a s) i 4
-
--- the register of lane k
-pub each-at : (f : ℕ → ℕ → ℕ) (v : List ℕ) (a k : ℕ) → k < length v → get_or (each f a v) k 0 ≡ f (a + 4096 * k) (get_or v k 0)
-each-at f [] a k h = absurd (omega arith)
-each-at f (c ∷ v) a zero h = let e : a + 4096 * 0 ≡ a = omega arith in rw e
-each-at f (c ∷ v) a (suc k) h =
-    let e : a + 4096 + 4096 * k ≡ a + 4096 * suc k = omega arith in
-    each-at f v (a + 4096) k (omega arith) ∙ rw e
 
 -- the bytes of a round that are still to leave
 unfoldable pub leaves : ℕ → List ℕ → List ℕ
