@@ -7,7 +7,7 @@ use Prim.Native.Nat.{ℕ, suc, ◌+◌, ◌*◌}
 use native.Mathlib.Omega.{arith}
 use lib.Bits.{bit_xor, xor_zero_r}
 use lib.Dec.{leb}
-use lib.ListN.{length, take, drop, length-drop}
+use lib.ListN.{length, take, drop, get_or, length-drop}
 use lib.Seq.{length-take-le, take_all}
 use borrow.Author.Tests.{leb-true}
 use Rattle.lists.specs.Lists.{fold}
@@ -61,11 +61,16 @@ whole-block c s e = ap (fold crc_byte c) (take_all 32768 s (omega arith))
 abbrev pub with_lane : ℕ → ℕ → ℕ
 with_lane a b = bit_xor (crc_bits 32768 a) b
 
+first_lane : (c : ℕ) (s : List ℕ) → lane c s 0 4096 ≡ fold crc_byte c (take 4096 s)
+unfolding lane
+first_lane c s = refl
+
 -- a whole block: its lanes, one after the other
-pub joined : (c : ℕ) (s : List ℕ) → length s ≡ 32768 → fold with_lane c (lane_ends s 4096) ≡ fold crc_byte c s
+pub joined : (c : ℕ) (s v : List ℕ) → length s ≡ 32768 → v ≡ lane_ends c s 4096
+    → fold with_lane (get_or v 0 0) (drop 1 v) ≡ fold crc_byte c s
 unfolding lane_ends fold
-joined c s l =
-    let r₁ = with_lane c (lane 0 s 0 4096) in
+joined c s v l e =
+    let r₁ = lane c s 0 4096 in
     let r₂ = with_lane r₁ (lane 0 s 4096 4096) in
     let r₃ = with_lane r₂ (lane 0 s 8192 4096) in
     let r₄ = with_lane r₃ (lane 0 s 12288 4096) in
@@ -73,7 +78,7 @@ joined c s l =
     let r₆ = with_lane r₅ (lane 0 s 20480 4096) in
     let r₇ = with_lane r₆ (lane 0 s 24576 4096) in
     let r₈ = with_lane r₇ (lane 0 s 28672 4096) in
-    let j₁ = lane-joined c s 0 c (lane 0 s 0 4096) r₁ l refl refl refl refl in
+    let j₁ = first_lane c s in
     let j₂ = lane-joined c s 4096 r₁ (lane 0 s 4096 4096) r₂ l refl j₁ refl refl in
     let j₃ = lane-joined c s 8192 r₂ (lane 0 s 8192 4096) r₃ l refl j₂ refl refl in
     let j₄ = lane-joined c s 12288 r₃ (lane 0 s 12288 4096) r₄ l refl j₃ refl refl in
@@ -81,4 +86,4 @@ joined c s l =
     let j₆ = lane-joined c s 20480 r₅ (lane 0 s 20480 4096) r₆ l refl j₅ refl refl in
     let j₇ = lane-joined c s 24576 r₆ (lane 0 s 24576 4096) r₇ l refl j₆ refl refl in
     let j₈ = lane-joined c s 28672 r₇ (lane 0 s 28672 4096) r₈ l refl j₇ refl refl in
-    j₈ ∙ whole-block c s l
+    ap (λ (v : List ℕ). fold with_lane (get_or v 0 0) (drop 1 v)) e ∙ j₈ ∙ whole-block c s l

@@ -4,12 +4,12 @@ use mathlib.Core.List.{List, [], ◌∷◌}
 use Prim.Native.Nat.{ℕ, zero, suc, ◌+◌, ◌*◌, ◌^◌, ◌-◌, ◌<◌, ◌≤◌}
 use native.Mathlib.Omega.{arith}
 use lib.Bits.{bit_xor, xor_comm, xor_shifted}
-use lib.ListN.{length, take, drop, get_or, replicate}
+use lib.ListN.{length, take, drop, get_or}
 use lib.Seq.{drop-drop}
 use Rattle.lists.specs.Lists.{fold}
 use Rattle.lists.proofs.Parts.{spells}
 use Rattle.crc.specs.Crc.{crc_bits, crc_byte}
-use Rattle.crc.specs.Lanes.{lane, lane_ends, word_at, words_in, bytes_out}
+use Rattle.crc.specs.Lanes.{started, lane, lane_ends, word_at, words_in, bytes_out}
 use Rattle.crc.proofs.Folds.{fold-take}
 use Rattle.crc.proofs.Polynomial.{xor_assoc, bits-xor, bits-zero}
 
@@ -63,20 +63,20 @@ pub all_left : (k : ℕ) (v : List ℕ) → k ≡ 4 → leaves (4 - k) v ≡ v
 unfolding leaves
 all_left k v e = rw e
 
-pub none_yet : (s : List ℕ) → replicate 8 0 ≡ lane_ends s 0
+pub none_yet : (c : ℕ) (s : List ℕ) → started c ≡ lane_ends c s 0
 unfolding lane_ends lane fold
-none_yet s = refl
+none_yet c s = refl
 
 room : (a i : ℕ) (s : List ℕ) → a ≤ 28672 → length s ≡ 32768 → i + 4 ≤ 4096 → a + i + 4 ≤ length s
 room a i s h l k = omega arith
 
 -- all lanes by four bytes more
-pub round : (s : List ℕ) (i : ℕ) → ((j : ℕ) → get_or s j 0 < 256) → length s ≡ 32768 → i + 4 ≤ 4096
-    → leaves 4 (words_in s i (lane_ends s i)) ≡ lane_ends s (i + 4)
+pub round : (c : ℕ) (s : List ℕ) (i : ℕ) → ((j : ℕ) → get_or s j 0 < 256) → length s ≡ 32768 → i + 4 ≤ 4096
+    → leaves 4 (words_in s i (lane_ends c s i)) ≡ lane_ends c s (i + 4)
 unfolding leaves lane_ends
-round s i b l h =
+round c s i b l h =
     rw (
-      lane-on 0 s 0 i b (room 0 i s (omega arith) l h),
+      lane-on c s 0 i b (room 0 i s (omega arith) l h),
       lane-on 0 s 4096 i b (room 4096 i s (omega arith) l h),
       lane-on 0 s 8192 i b (room 8192 i s (omega arith) l h),
       lane-on 0 s 12288 i b (room 12288 i s (omega arith) l h),
