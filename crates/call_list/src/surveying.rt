@@ -2,34 +2,38 @@
 ghost use Rattle.std.specs.Prelude.{◌≡◌, true, false, ◌≤◌};
 ghost use Rattle.lists.specs.Questions.{asked};
 ghost use Rattle.call_list.specs.Items.{items, item_room};
-ghost use Rattle.call_list.specs.Surveys.{survey_with, surveyed, surveyed_all};
+ghost use Rattle.call_list.specs.Surveys.{survey_with, left_after, surveyed, surveyed_all};
 ghost use Rattle.call_list.specs.ListQuestions.{list_questions};
 
 use crate::items::{ending_room, item_in, item_length, item_room};
 use crate::{Item, Survey};
+
+// What n bytes more leave of the output, if they fit.
+fn left_after(left: Option<usize>, n: usize) -> Option<usize>
+    ensures { result ≡ left_after left n }
+{
+    left?.checked_sub(n)
+}
 
 #[tactic(auto, unfolding(crate::specs::Surveys::surveyed))]
 fn surveyed(s: Survey, item: Item) -> Survey
     requires { item_room item ≤ 18446744073709551615 }
     ensures { result ≡ surveyed s item }
 {
-    let n = item_room(item);
     Survey {
         good: s.good && !matches!(item, Item::Bad),
         writes: s.writes || matches!(item, Item::SaveWrite(_, _)),
-        fits: s.fits && n <= s.left,
-        left: s.left.saturating_sub(n),
+        left: left_after(s.left, item_room(item)),
     }
 }
 
 // `left` is how many bytes of output there are for the answers.
-fn survey(list: &[u8], left: usize) -> Survey
-    ensures { result ≡ surveyed_all (survey_with true false true left) (items 0 list.now) }
+fn survey(list: &[u8], left: Option<usize>) -> Survey
+    ensures { result ≡ surveyed_all (survey_with true false left) (items 0 list.now) }
 {
     let mut s = Survey {
         good: true,
         writes: false,
-        fits: true,
         left,
     };
     let mut rest = list;
@@ -46,8 +50,7 @@ pub fn ask_list(list: &[u8], eeprom: bool, memory: usize, scratch: usize, out: u
     requires { memory ≤ 131072 }
     ensures { result ≡ asked (list_questions (items 0 list.now) eeprom memory scratch out) }
 {
-    let end = ending_room(memory);
-    let s = survey(list, out.saturating_sub(end));
+    let s = survey(list, out.checked_sub(ending_room(memory)));
     if !s.good {
         return 0xFF;
     }
@@ -57,10 +60,7 @@ pub fn ask_list(list: &[u8], eeprom: bool, memory: usize, scratch: usize, out: u
     if scratch < memory {
         return 13;
     }
-    if out < end {
-        return 13;
-    }
-    if !s.fits {
+    if s.left.is_none() {
         return 13;
     }
     0
