@@ -29,6 +29,7 @@ fn read_with(cart: &RecordBytes, part: Part, memory: &[u8], address: u32, value:
     0
 }
 
+#[tactic(auto, using(c_record::proofs::Calls::no_record))]
 fn read_any(cart: &RecordBytes, memory: &[u8], address: u32, value: &mut u32) -> u32
     ensures { (result, cart.now, memory.now, value.new)
         ≡ reads address cart.now memory.now value.old }
@@ -39,6 +40,7 @@ fn read_any(cart: &RecordBytes, memory: &[u8], address: u32, value: &mut u32) ->
     read_with(cart, c_record::part_in(cart), memory, address, value)
 }
 
+#[tactic(auto, using(quick_tests::proofs::QuickTests::known_usual))]
 pub fn save_read(cart: &RecordBytes, memory: &[u8], address: u32, value: &mut u32) -> u32
     ensures { (result, cart.now, memory.now, value.new)
         ≡ reads address cart.now memory.now value.old }
@@ -90,6 +92,7 @@ fn write_valid(
     0
 }
 
+#[tactic(auto, using(c_record::proofs::Calls::no_record))]
 fn write_any(
     cart: &mut RecordBytes,
     memory: &mut [u8],

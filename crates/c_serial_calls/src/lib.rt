@@ -29,6 +29,7 @@ fn dma_valid(cart: &mut RecordBytes, words: u32) -> u32
     0
 }
 
+#[tactic(auto, using(c_record::proofs::Calls::no_record))]
 fn dma_any(cart: &mut RecordBytes, words: u32) -> u32
     ensures { (m : List ℕ) → (result, cart.new, m) ≡ announces words cart.old m }
 {
@@ -112,6 +113,7 @@ fn write_valid(
     }
 }
 
+#[tactic(auto, using(c_record::proofs::Calls::no_record))]
 fn write_any(
     cart: &mut RecordBytes,
     memory: &mut [u8],
@@ -173,6 +175,7 @@ fn read_valid(cart: &mut RecordBytes, memory: &[u8], bit: &mut u32) -> u32
     }
 }
 
+#[tactic(auto, using(c_record::proofs::Calls::no_record))]
 fn read_any(cart: &mut RecordBytes, memory: &[u8], bit: &mut u32) -> u32
     ensures { (result, cart.new, memory.now, bit.new)
         ≡ gives_bit cart.old memory.now bit.old }
