@@ -67,3 +67,6 @@ module _ (r m : List ℕ) (v : Valid r) where
     write-yes ts h a x place t e p q =
         let b = p ∙ ap (λ (l : List ℕ). with_id (with_flash l t.sets t.flash) t.flash.id) (sym v.back) ∙ put-flash (cart_of r) t.sets t.flash in
         (λ i. (0, b i, (q i).1, (q i).2, (q i).0)) ∙ rw e (ap (changed_at place) (done (save_write a x) [] r m ts v (tallies-yes r m ts v [] n h)))
+
+-- what a read answers and leaves, by question 3
+pub ruleset reading = (read_no, read-yes)

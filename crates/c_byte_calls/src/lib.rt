@@ -16,6 +16,7 @@ use part::Part;
 // In line at both places: with the usual part the ID words are one table by the kind, and with both tables the
 // compiler would leave the function out of `save_read`.
 #[inline(always)]
+#[tactic(auto, using(crate::proofs::ByteCalls::reading))]
 fn read_with(cart: &RecordBytes, part: Part, memory: &[u8], address: u32, value: &mut u32) -> u32
     requires { Valid cart.now × ((cart_of cart.now).part ≡ part) }
     ensures { (result, cart.now, memory.now, value.new)

@@ -139,3 +139,6 @@ module _ (r m : List ℕ) (v : Valid r) where
 
       pub read-end : {r' : List ℕ} → d ≡ drawn.Ended → r' ≡ with_ended r → (0, r', m, bit) ≡ gives_bit r m place
       read-end g p = drew drawn.Ended g (p ∙ ap with_ended (sym v.back) ∙ put_ended (cart_of r))
+
+-- what a DMA announcement answers and leaves, by question 5
+pub ruleset announcing = (dma-no, dma-yes)

@@ -16,6 +16,7 @@ use eeprom::{Drawn, Eeprom, EepromStep, Shifted};
 use memory::NO_FILE;
 
 // Takes no memory; the contract holds for any memory.
+#[tactic(auto, using(crate::proofs::SerialCalls::announcing))]
 fn dma_valid(cart: &mut RecordBytes, words: u32) -> u32
     requires { Valid cart.old }
     ensures { (m : List ℕ) → (result, cart.new, m) ≡ announces words cart.old m }
