@@ -56,6 +56,7 @@ pub fn save_read(cart: &RecordBytes, memory: &[u8], address: u32, value: &mut u3
 }
 
 // The record is updated first, so that nothing but the place stays live across an erase.
+#[tactic(auto, using(crate::proofs::ByteCalls::writing))]
 fn write_valid(
     cart: &mut RecordBytes,
     memory: &mut [u8],

@@ -77,6 +77,7 @@ fn turn_in(
     memory::apply(store, &NO_FILE, memory, tallies)
 }
 
+#[tactic(auto, using(crate::proofs::SerialCalls::bits_in))]
 fn write_valid(
     cart: &mut RecordBytes,
     memory: &mut [u8],
@@ -152,6 +153,7 @@ pub fn eeprom_write(
     write_valid(cart, memory, tallies, value, changed)
 }
 
+#[tactic(auto, using(crate::proofs::SerialCalls::bits_out))]
 fn read_valid(cart: &mut RecordBytes, memory: &[u8], bit: &mut u32) -> u32
     requires { Valid cart.old }
     ensures { (result, cart.new, memory.now, bit.new)
