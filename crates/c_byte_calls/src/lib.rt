@@ -4,7 +4,7 @@
 
 #![tactic(auto)]
 
-ghost use Rattle.std.specs.Prelude.{◌≡◌};
+ghost use Rattle.std.specs.Prelude.{◌≡◌, true};
 ghost use Rattle.part.specs.declared.Part.TheVariants.{Usual};
 ghost use Rattle.c_record.specs.RecordBytes.{cart_of, Valid};
 ghost use Rattle.c_record.specs.Calls.{reads, writes};
@@ -14,9 +14,16 @@ use c_record::{RecordBytes, layout};
 use memory::NO_FILE;
 use part::Part;
 
+// Two functions of one text: with the usual part the ID words are one table by the kind, and with both tables the
+// compiler would leave the function out of `save_read`.
 #[tactic(auto, using(crate::proofs::ByteCalls::reading))]
-fn read_valid(cart: &RecordBytes, memory: &[u8], address: u32, value: &mut u32) -> u32
-    requires { Valid cart.now }
+fn read_with<const USUAL: bool>(
+    cart: &RecordBytes,
+    memory: &[u8],
+    address: u32,
+    value: &mut u32,
+) -> u32
+    requires { Valid cart.now × (USUAL ≡ true → (cart_of cart.now).part ≡ Usual) }
     ensures { (result, cart.now, memory.now, value.new)
         ≡ reads address cart.now memory.now value.old }
 {
@@ -24,13 +31,12 @@ fn read_valid(cart: &RecordBytes, memory: &[u8], address: u32, value: &mut u32) 
     if memory.len() != kind::memory_size(kind) {
         return 3;
     }
-    *value = byte_step::read_byte(
-        kind,
-        c_record::part_in(cart),
-        c_record::flash_in(cart),
-        memory,
-        address,
-    ) as u32;
+    let part = if USUAL {
+        Part::Usual
+    } else {
+        c_record::part_in(cart)
+    };
+    *value = byte_step::read_byte(kind, part, c_record::flash_in(cart), memory, address) as u32;
     0
 }
 
@@ -42,30 +48,7 @@ fn read_any(cart: &RecordBytes, memory: &[u8], address: u32, value: &mut u32) ->
     if !c_record::is_record(cart) {
         return 2;
     }
-    read_valid(cart, &memory[..], address, value)
-}
-
-// With the usual part, whose ID words are one table by the kind. With both tables the compiler would leave the function
-// out of `save_read`.
-// Kept: of one function with the part as a parameter, forced in line, the compiler makes a jump table of the kinds.
-#[tactic(auto, using(crate::proofs::ByteCalls::reading))]
-fn read_usual(cart: &RecordBytes, memory: &[u8], address: u32, value: &mut u32) -> u32
-    requires { Valid cart.now × ((cart_of cart.now).part ≡ Usual) }
-    ensures { (result, cart.now, memory.now, value.new)
-        ≡ reads address cart.now memory.now value.old }
-{
-    let kind = c_record::kind_in(cart);
-    if memory.len() != kind::memory_size(kind) {
-        return 3;
-    }
-    *value = byte_step::read_byte(
-        kind,
-        Part::Usual,
-        c_record::flash_in(cart),
-        memory,
-        address,
-    ) as u32;
-    0
+    read_with::<false>(cart, &memory[..], address, value)
 }
 
 #[tactic(auto, using(quick_tests::proofs::QuickTests::known_usual))]
@@ -79,7 +62,7 @@ pub fn save_read(cart: &RecordBytes, memory: &[u8], address: u32, value: &mut u3
     if !quick_tests::bytes_usual(cart) {
         return read_any(cart, memory, address, value);
     }
-    read_usual(cart, memory, address, value)
+    read_with::<true>(cart, memory, address, value)
 }
 
 // The record is updated first, so that nothing but the place stays live across an erase.
