@@ -11,24 +11,31 @@ use Rattle.call_list.proofs.surveying.ask_list.Goals.{then-scratch-memory-via-th
 
 pub returns-then-not-s : goal.returns-then-not-s
 returns-then-not-s c =
-    let said = survey-said _ (items 0 c.args.list.now) _ c.survey-s.ensures in
+    let s = c in
+    let a = s.args in
+    let list = items 0 a.list.now in
+    let said = survey-said _ list _ s.survey-s.ensures in
     rw (denied _ said.0 (not-true _ c.if-not-s.true))
 
 pub returns-then-both : goal.returns-then-both
 returns-then-both c =
-    let said = survey-said _ (items 0 c.args.list.now) _ c.survey-s.ensures in
+    let s = c in
+    let a = s.args in
+    let list = items 0 a.list.now in
+    let said = survey-said _ list _ s.survey-s.ensures in
     rw (
       granted _ said.0 (not-false _ c.if-not-s.false),
-      sym (c.both.ensures ∙ ap (λ (b : Bool). b && c.args.eeprom) said.1) ∙ c.if-both.true,
+      sym (c.both.ensures ∙ ap (λ (b : Bool). b && a.eeprom) said.1) ∙ c.if-both.true,
     )
 
 pub returns-then-scratch-memory : goal.returns-then-scratch-memory
 returns-then-scratch-memory c =
-    let a = c.args in
+    let s = c in
+    let a = s.args in
     let list = items 0 a.list.now in
-    let said = survey-said _ list _ c.survey-s.ensures in
-    let e = c.ending_room-end.ensures in
-    let n = c.room_after in
+    let said = survey-said _ list _ s.survey-s.ensures in
+    let e = s.ending_room-end.ensures in
+    let n = s.room_after in
     rw (granted _ said.0 (not-false _ c.if-not-s.false), sym (c.both.ensures ∙ ap (λ (b : Bool). b && a.eeprom) said.1) ∙ c.if-both.false)
     (elim c.then-scratch-memory.branch [
       | then-scratch-memory-via-then-scratch-memory w ↦ rw (lt-leb _ _ w.if-scratch-memory.true)
@@ -46,11 +53,12 @@ returns-then-scratch-memory c =
 
 pub returns : goal.returns
 returns c =
-    let a = c.args in
+    let s = c in
+    let a = s.args in
     let list = items 0 a.list.now in
-    let said = survey-said _ list _ c.survey-s.ensures in
-    let e = c.ending_room-end.ensures in
-    let n = c.room_after in
+    let said = survey-said _ list _ s.survey-s.ensures in
+    let e = s.ending_room-end.ensures in
+    let n = s.room_after in
     let under = leb-true (room list) n.result (granted _ said.2 (not-false _ c.if-not-s-2.false)) in
     rw (
       granted _ said.0 (not-false _ c.if-not-s.false),
