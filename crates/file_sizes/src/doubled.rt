@@ -1,11 +1,13 @@
 // Doubled SRAM files: the half that import drops, and the questions of a file.
 ghost use Rattle.std.specs.Prelude.{◌≡◌, true, ◌≤◌, length};
 ghost use Rattle.lists.specs.Questions.{asked};
+ghost use Rattle.refusal.specs.Refusals.{number_of};
 ghost use Rattle.file_sizes.specs.SaveFit.{save_fit, taken};
 ghost use Rattle.file_sizes.specs.Doubled.{doubled, blank_or_copy, drop_accepted, file_questions};
 
 use crate::takes;
 use kind::SaveType;
+use refusal::Refusal;
 
 // Of the lengths that an SRAM takes, the two longer ones are doubled.
 #[tactic(auto, using(crate::proofs::Halves::sram_longer))]
@@ -35,15 +37,15 @@ fn drop_accepted(kind: SaveType, file: &[u8]) -> bool
     !is_doubled(kind, file.len()) || blank_or_copy(file)
 }
 
-// Questions 14 and 19: the number of the first one that is answered no, or 0.
-pub fn file_door(kind: SaveType, file: &[u8]) -> u32
-    ensures { result ≡ asked (file_questions kind file.now) }
+// Questions 14 and 19, in this order.
+pub fn file_door(kind: SaveType, file: &[u8]) -> Result<(), Refusal>
+    ensures { number_of result ≡ asked (file_questions kind file.now) }
 {
     if !takes(kind, file.len()) {
-        return 14;
+        return Err(Refusal::FileLength);
     }
     if !drop_accepted(kind, file) {
-        return 19;
+        return Err(Refusal::UpperHalf);
     }
-    0
+    Ok(())
 }

@@ -16,10 +16,8 @@ fn header_sum(image: &[u8]) -> u8
     ensures { result ≡ header_sum image.now }
 {
     let mut sum: u8 = 0;
-    let mut i = 0xA0;
-    while i < 0xBD {
-        sum = minus(sum, image[i]);
-        i += 1;
+    for byte in &image[0xA0..0xBD] {
+        sum = minus(sum, *byte);
     }
     minus(sum, 0x19)
 }
