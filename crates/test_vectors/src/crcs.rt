@@ -1,13 +1,7 @@
 // Vectors of the CRC. Byte i of the bytes is (7 × i + i / 256) mod 256.
-ghost use Rattle.std.specs.Prelude.{◌≡◌, ◌+◌, ◌≤◌, length};
+ghost use Rattle.std.specs.Prelude.{◌+◌, ◌≤◌, length};
 
 use std::io;
-
-fn room() -> [u8; 131072]
-    ensures { 131072 ≡ length result }
-{
-    [0; 131072]
-}
 
 fn make_bytes(s: &mut [u8]) {
     for (i, byte) in s.iter_mut().enumerate() {
@@ -82,7 +76,7 @@ fn crcs_in_parts(rt: &impl Print, s: &[u8]) -> io::Result<()> {
 pub fn crcs(rt: &impl Print) -> io::Result<()> {
     crc(rt, "")?;
     crc(rt, "123456789")?;
-    let mut s = room();
+    let mut s = [0; 131072];
     make_bytes(&mut s);
     short_crcs(rt, &s)?;
     long_crcs(rt, &s)?;

@@ -99,18 +99,12 @@ fn long_pieces(rt: &impl Print, marker: &[u8]) -> io::Result<()>
     println!(rt)
 }
 
-fn zeros() -> [u8; 4096]
-    ensures { 4096 ≡ length result }
-{
-    [0; 4096]
-}
-
 // So many pieces of 4,096 zeros.
 fn add_zeros(before: Fed, pieces: usize) -> Fed
     requires { before.count + 4096 * pieces < 2 ^ 64 }
     ensures { result.count ≤ before.count + 4096 * pieces }
 {
-    let piece = zeros();
+    let piece = [0; 4096];
     let mut now = before;
     for _ in 0..pieces {
         now = add_piece(now, &piece);
@@ -122,7 +116,7 @@ fn add_zeros(before: Fed, pieces: usize) -> Fed
 fn many_pieces(rt: &impl Print, first: &[u8]) -> io::Result<()>
     requires { length first.now ≤ 1 }
 {
-    let mut last = zeros();
+    let mut last = [0; 4096];
     put(&mut last, 4088, b"EEPROM_V");
     let zeros = add_zeros(add_piece(nothing_fed(), first), 4095);
     let all = add_piece(zeros, &last);
