@@ -38,10 +38,10 @@ fn case(rt: &impl Runtime, path: &[u8]) -> io::Result<()> {
 fn main(rt: HostRuntime) -> io::Result<()> {
     let mut path = named_files::buffer();
     for k in 1..usize::MAX {
-        match named_files::argument(&rt, k, &mut path) {
-            Some(n) => case(&rt, &path[..n])?,
-            None => break,
-        }
+        let Some(n) = named_files::argument(&rt, k, &mut path) else {
+            break;
+        };
+        case(&rt, &path[..n])?;
     }
     Ok(())
 }
