@@ -12,13 +12,13 @@ use Rattle.kind.specs.declared.SaveType.{SaveType}
 use Rattle.kind.proofs.Sizes.{whole-stretches}
 use Rattle.byte_step.specs.declared.ByteStep.{ByteStep}
 use Rattle.byte_step.specs.ByteStep.{read_byte, write_step}
-use Rattle.byte_step.proofs.Fits.{step-id}
+use Rattle.byte_step.proofs.Fits.{step_fits, step-id}
 use Rattle.cart.specs.Calls.{save_read, save_write, read_save, write_save, question16, questions, accepted}
 use Rattle.c_record.specs.RecordBytes.{cart_of, Valid, state_of}
 use Rattle.c_record.specs.Fields.{with_flash, with_id}
 use Rattle.c_record.specs.AtExit.{value_at, changed_at}
 use Rattle.c_record.specs.Calls.{reads, writes}
-use Rattle.c_record.proofs.FieldBytes.{put-flash}
+use Rattle.c_record.proofs.FieldBytes.{id-byte, id-stays, put-flash}
 use Rattle.c_record.proofs.Calls.{memory-no, memory-yes, tallies-no, tallies-yes, refused, done}
 
 -- a step that stores does not change ID mode
@@ -67,3 +67,9 @@ module _ (r m : List ℕ) (v : Valid r) where
     write-yes ts h a x place t e p q =
         let b = p ∙ ap (λ (l : List ℕ). with_id (with_flash l t.sets t.flash) t.flash.id) (sym v.back) ∙ put-flash (cart_of r) t.sets t.flash in
         (λ i. (0, b i, (q i).1, (q i).2, (q i).0)) ∙ rw e (ap (changed_at place) (done (save_write a x) [] r m ts v (tallies-yes r m ts v [] n h)))
+
+-- what a read answers and leaves, by question 3
+pub ruleset reading = (read_no, read-yes)
+
+-- what a write answers and leaves
+pub ruleset writing = (tallies-by, write-no, write-16, id-byte, step_fits, whole-stretches)

@@ -4,7 +4,8 @@
 
 #![tactic(auto)]
 
-ghost use Rattle.std.specs.Prelude.{◌≡◌};
+ghost use Rattle.std.specs.Prelude.{◌≡◌, true};
+ghost use Rattle.part.specs.declared.Part.TheVariants.{Usual};
 ghost use Rattle.c_record.specs.RecordBytes.{cart_of, Valid};
 ghost use Rattle.c_record.specs.Calls.{reads, writes};
 
@@ -13,11 +14,16 @@ use c_record::{RecordBytes, layout};
 use memory::NO_FILE;
 use part::Part;
 
-// In line at both places: with the usual part the ID words are one table by the kind, and with both tables the
+// Two functions of one text: with the usual part the ID words are one table by the kind, and with both tables the
 // compiler would leave the function out of `save_read`.
-#[inline(always)]
-fn read_with(cart: &RecordBytes, part: Part, memory: &[u8], address: u32, value: &mut u32) -> u32
-    requires { Valid cart.now × ((cart_of cart.now).part ≡ part) }
+#[tactic(auto, using(crate::proofs::ByteCalls::reading))]
+fn read_with<const USUAL: bool>(
+    cart: &RecordBytes,
+    memory: &[u8],
+    address: u32,
+    value: &mut u32,
+) -> u32
+    requires { Valid cart.now × (USUAL ≡ true → (cart_of cart.now).part ≡ Usual) }
     ensures { (result, cart.now, memory.now, value.new)
         ≡ reads address cart.now memory.now value.old }
 {
@@ -25,10 +31,16 @@ fn read_with(cart: &RecordBytes, part: Part, memory: &[u8], address: u32, value:
     if memory.len() != kind::memory_size(kind) {
         return 3;
     }
+    let part = if USUAL {
+        Part::Usual
+    } else {
+        c_record::part_in(cart)
+    };
     *value = byte_step::read_byte(kind, part, c_record::flash_in(cart), memory, address) as u32;
     0
 }
 
+#[tactic(auto, using(c_record::proofs::Calls::no_record))]
 fn read_any(cart: &RecordBytes, memory: &[u8], address: u32, value: &mut u32) -> u32
     ensures { (result, cart.now, memory.now, value.new)
         ≡ reads address cart.now memory.now value.old }
@@ -36,9 +48,10 @@ fn read_any(cart: &RecordBytes, memory: &[u8], address: u32, value: &mut u32) ->
     if !c_record::is_record(cart) {
         return 2;
     }
-    read_with(cart, c_record::part_in(cart), memory, address, value)
+    read_with::<false>(cart, &memory[..], address, value)
 }
 
+#[tactic(auto, using(quick_tests::proofs::QuickTests::known_usual))]
 pub fn save_read(cart: &RecordBytes, memory: &[u8], address: u32, value: &mut u32) -> u32
     ensures { (result, cart.now, memory.now, value.new)
         ≡ reads address cart.now memory.now value.old }
@@ -49,10 +62,11 @@ pub fn save_read(cart: &RecordBytes, memory: &[u8], address: u32, value: &mut u3
     if !quick_tests::bytes_usual(cart) {
         return read_any(cart, memory, address, value);
     }
-    read_with(cart, Part::Usual, memory, address, value)
+    read_with::<true>(cart, memory, address, value)
 }
 
 // The record is updated first, so that nothing but the place stays live across an erase.
+#[tactic(auto, using(crate::proofs::ByteCalls::writing))]
 fn write_valid(
     cart: &mut RecordBytes,
     memory: &mut [u8],
@@ -90,6 +104,7 @@ fn write_valid(
     0
 }
 
+#[tactic(auto, using(c_record::proofs::Calls::no_record))]
 fn write_any(
     cart: &mut RecordBytes,
     memory: &mut [u8],

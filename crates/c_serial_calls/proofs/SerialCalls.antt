@@ -24,6 +24,7 @@ use Rattle.eeprom.proofs.Turns.{by_turn, after-drawn}
 use Rattle.cart.specs.Calls.{eeprom_begin_dma, eeprom_write, eeprom_read, question16, questions, accepted}
 use Rattle.c_record.specs.RecordBytes.{record_bytes, cart_of, Valid, state_of}
 use Rattle.cart.proofs.Bounds.{allowed-bounds}
+use Rattle.kind.proofs.Sizes.{whole-stretches}
 use Rattle.c_record.specs.Fields.{with_width, with_shift, with_place, with_ended, with_serial}
 use Rattle.c_record.specs.AtExit.{plain, value_at, changed_at}
 use Rattle.c_record.specs.Calls.{announces, takes_bit, gives_bit}
@@ -139,3 +140,11 @@ module _ (r m : List ℕ) (v : Valid r) where
 
       pub read-end : {r' : List ℕ} → d ≡ drawn.Ended → r' ≡ with_ended r → (0, r', m, bit) ≡ gives_bit r m place
       read-end g p = drew drawn.Ended g (p ∙ ap with_ended (sym v.back) ∙ put_ended (cart_of r))
+
+-- what a DMA announcement answers and leaves, by question 5
+pub ruleset announcing = (dma-no, dma-yes)
+
+-- what a bit in and a bit out answer and leave
+pub ruleset bits_in = (write-3, write-16, write-4, whole-stretches)
+
+pub ruleset bits_out = (read-3, read-nothing, read-end)

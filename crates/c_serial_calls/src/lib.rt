@@ -16,6 +16,7 @@ use eeprom::{Drawn, Eeprom, EepromStep, Shifted};
 use memory::NO_FILE;
 
 // Takes no memory; the contract holds for any memory.
+#[tactic(auto, using(crate::proofs::SerialCalls::announcing))]
 fn dma_valid(cart: &mut RecordBytes, words: u32) -> u32
     requires { Valid cart.old }
     ensures { (m : List ℕ) → (result, cart.new, m) ≡ announces words cart.old m }
@@ -29,6 +30,7 @@ fn dma_valid(cart: &mut RecordBytes, words: u32) -> u32
     0
 }
 
+#[tactic(auto, using(c_record::proofs::Calls::no_record))]
 fn dma_any(cart: &mut RecordBytes, words: u32) -> u32
     ensures { (m : List ℕ) → (result, cart.new, m) ≡ announces words cart.old m }
 {
@@ -75,6 +77,7 @@ fn turn_in(
     memory::apply(store, &NO_FILE, memory, tallies)
 }
 
+#[tactic(auto, using(crate::proofs::SerialCalls::bits_in))]
 fn write_valid(
     cart: &mut RecordBytes,
     memory: &mut [u8],
@@ -112,6 +115,7 @@ fn write_valid(
     }
 }
 
+#[tactic(auto, using(c_record::proofs::Calls::no_record))]
 fn write_any(
     cart: &mut RecordBytes,
     memory: &mut [u8],
@@ -149,6 +153,7 @@ pub fn eeprom_write(
     write_valid(cart, memory, tallies, value, changed)
 }
 
+#[tactic(auto, using(crate::proofs::SerialCalls::bits_out))]
 fn read_valid(cart: &mut RecordBytes, memory: &[u8], bit: &mut u32) -> u32
     requires { Valid cart.old }
     ensures { (result, cart.new, memory.now, bit.new)
@@ -173,6 +178,7 @@ fn read_valid(cart: &mut RecordBytes, memory: &[u8], bit: &mut u32) -> u32
     }
 }
 
+#[tactic(auto, using(c_record::proofs::Calls::no_record))]
 fn read_any(cart: &mut RecordBytes, memory: &[u8], bit: &mut u32) -> u32
     ensures { (result, cart.new, memory.now, bit.new)
         ≡ gives_bit cart.old memory.now bit.old }

@@ -1,6 +1,6 @@
 -- What a survey says of the whole list. Assumes nothing.
-use mathlib.Core.Path.{◌≡◌, sym, ap, ◌∙◌}
-use mathlib.Core.Bool.{Bool, true, false, ◌&&◌, ◌||◌, and-true, and_assoc, or-false, or_assoc}
+use mathlib.Core.Path.{◌≡◌, refl, sym, ap, ◌∙◌}
+use mathlib.Core.Bool.{true, false, ◌&&◌, ◌||◌, and-true, and_assoc, or-false, or_assoc}
 use mathlib.Core.List.{List, [], ◌∷◌}
 use Prim.Native.Nat.{ℕ, ◌+◌, ◌-◌, ◌<◌}
 use native.Mathlib.Omega.{arith}
@@ -9,10 +9,11 @@ use lib.ListN.{length, take, drop}
 use borrow.Author.Tests.{leb-true, leb-false, le-leb, lt-leb}
 use Rattle.lists.proofs.Bools.{cases}
 use Rattle.lists.proofs.Parts.{rest}
+use Rattle.std.specs.Prelude.{Option, None, Some}
 use Rattle.call_list.specs.declared.Item.{Item}
 use Rattle.call_list.specs.declared.Survey.{Survey}
 use Rattle.call_list.specs.Items.{Place, item_in, item_length, item_room, is_item, is_write, items, good, byte_writes, room}
-use Rattle.call_list.specs.Surveys.{survey_with, surveyed, surveyed_all}
+use Rattle.call_list.specs.Surveys.{survey_with, left_after, surveyed, surveyed_all}
 use Rattle.call_list.proofs.Places.{first-item}
 
 -- a turn of the loop over what is left of the list, and its end
@@ -37,24 +38,29 @@ unfolding surveyed_all surveyed byte_writes
 survey-writes s [] = sym (or-false s.writes)
 survey-writes s (p ∷ list) = survey-writes (surveyed s p.item) list ∙ or_assoc s.writes (is_write p.item) (byte_writes list)
 
-both-fit : (a b n : ℕ) → (leb a n && leb b (n - a)) ≡ leb (a + b) n
-both-fit a b n =
-    cases (leb (a + b) n)
-    (λ t. let h = leb-true (a + b) n t in rw (t, le-leb a n (omega arith), le-leb b (n - a) (omega arith)))
+twice : (o : Option ℕ) (a b : ℕ) → left_after (left_after o a) b ≡ left_after o (a + b)
+twice None a b = refl
+twice (Some r) a b =
+    cases (leb (a + b) r)
     (λ t.
-    let h = leb-false (a + b) n t in
-    cases (leb a n) (λ f. let k = leb-true a n f in rw (t, f, lt-leb b (n - a) (omega arith))) (λ f. rw (t, f)))
+    let h = leb-true (a + b) r t in
+    let e : r - a - b ≡ r - (a + b) = omega (arith, h) in
+    rw (t, le-leb a r (omega (arith, h)), le-leb b (r - a) (omega (arith, h)), e))
+    (λ t.
+    let h = leb-false (a + b) r t in
+    cases (leb a r) (λ f. let k = leb-true a r f in rw (t, f, lt-leb b (r - a) (omega (arith, h, k)))) (λ f. rw (t, f)))
 
-survey-fits : (s : Survey) (list : List Place) → (surveyed_all s list).fits ≡ (s.fits && leb (room list) s.left)
+none_more : (o : Option ℕ) → o ≡ left_after o 0
+none_more None = refl
+none_more (Some r) = let e : r ≡ r - 0 = omega arith in rw (le-leb 0 r (omega arith)) (ap Some e)
+
+survey-left : (s : Survey) (list : List Place) → (surveyed_all s list).left ≡ left_after s.left (room list)
 unfolding surveyed_all surveyed room
-survey-fits s [] = rw (le-leb 0 s.left (omega arith)) (sym (and-true s.fits))
-survey-fits s (p ∷ list) =
-    survey-fits (surveyed s p.item) list
-    ∙ and_assoc s.fits (leb (item_room p.item) s.left) (leb (room list) (s.left - item_room p.item))
-    ∙ ap (λ (b : Bool). s.fits && b) (both-fit (item_room p.item) (room list) s.left)
+survey-left s [] = none_more s.left
+survey-left s (p ∷ list) = survey-left (surveyed s p.item) list ∙ twice s.left (item_room p.item) (room list)
 
-pub survey-said : (s : Survey) (list : List Place) (n : ℕ) → s ≡ surveyed_all (survey_with true false true n) list
-    → (s.good ≡ good list) × (s.writes ≡ byte_writes list) × (s.fits ≡ leb (room list) n)
-survey-said s list n e =
-    let whole = survey_with true false true n in
-    ((λ i. (e i).good) ∙ survey-good whole list, (λ i. (e i).writes) ∙ survey-writes whole list, (λ i. (e i).fits) ∙ survey-fits whole list)
+pub survey-said : (s : Survey) (list : List Place) (o : Option ℕ) → s ≡ surveyed_all (survey_with true false o) list
+    → (s.good ≡ good list) × (s.writes ≡ byte_writes list) × (s.left ≡ left_after o (room list))
+survey-said s list o e =
+    let whole = survey_with true false o in
+    ((λ i. (e i).good) ∙ survey-good whole list, (λ i. (e i).writes) ∙ survey-writes whole list, (λ i. (e i).left) ∙ survey-left whole list)

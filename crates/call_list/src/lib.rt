@@ -25,12 +25,11 @@ pub enum Item {
     Bad,
 }
 
-// What is known of a list: whether it has only items, whether a byte write is among them, whether the answers fit
-// into the output, and how many bytes of the output are left.
+// What is known of a list: whether it has only items, whether a byte write is among them, and how many bytes of the
+// output are left, if the answers fit into it.
 #[derive(Clone, Copy)]
 pub struct Survey {
     pub good: bool,
     pub writes: bool,
-    pub fits: bool,
-    pub left: usize,
+    pub left: Option<usize>,
 }

@@ -9,18 +9,10 @@ use carttrace_lib::Session;
 use std::io;
 use std::io::Read;
 
-// Room for the save memory of every kind.
-fn memory() -> [u8; 131072]
-    ensures { 131072 ≡ length result }
+fn zeros<const N: usize>() -> [u8; N]
+    ensures { N ≡ length result }
 {
-    [0; 131072]
-}
-
-// Room for what a piece of the input prints.
-fn output() -> [u8; 65536]
-    ensures { 65536 ≡ length result }
-{
-    [0; 65536]
+    [0; N]
 }
 
 // Plays a piece of the input, and prints its answers: 1,024 characters print at most 39 each.
@@ -86,8 +78,9 @@ fn run(
 }
 
 fn main(rt: HostRuntime) -> io::Result<()> {
-    let mut memory = memory();
+    // Room for the save memory of every kind, and for what a piece of the input prints.
+    let mut memory = zeros::<131072>();
     let mut tallies = [0u16; 32];
-    let mut out = output();
+    let mut out = zeros::<65536>();
     run(&rt, &mut rt.reader(), &mut memory, &mut tallies, &mut out)
 }

@@ -15,17 +15,10 @@ use refusal::Refusal;
 pub fn phase_number(phase: EepromPhase) -> u8
     ensures { result ≡ phase_number phase }
 {
-    match phase {
-        EepromPhase::Opcode => 0,
-        EepromPhase::ReadAddress => 1,
-        EepromPhase::WriteAddress => 2,
-        EepromPhase::WriteData => 3,
-        EepromPhase::ReadStop => 4,
-        EepromPhase::WriteStop => 5,
-        EepromPhase::Reading => 6,
-    }
+    phase as u8
 }
 
+// Kept: total, as `chip_of` of any bytes is; no number above 6 comes past question 7.
 fn phase_of(n: u8) -> EepromPhase
     ensures { result ≡ phase_of n }
 {
@@ -45,14 +38,13 @@ pub fn chip_bytes(chip: ChipRecord) -> ChipBytes
 {
     let flash = chip.flash;
     let e = chip.eeprom;
-    let phase = e.phase;
     [
         flash.state,
         flash.bank,
         lists::bit(flash.id),
         e.width,
         lists::bit(e.large),
-        phase_number(phase),
+        phase_number(e.phase),
         e.count,
         (e.block % 256) as u8,
         (e.block / 256) as u8,
@@ -150,25 +142,18 @@ pub fn field_questions(b: &[u8]) -> Result<(), Refusal>
     Err(Refusal::Count)
 }
 
+#[tactic(auto, using(lists::proofs::Bools::tests))]
 fn flags_allowed(bank: u8, id: u8, large: u8) -> bool
     ensures { result ≡ (leb bank 1 && leb id 1 && leb large 1) }
 {
-    if 1 < bank {
-        return false;
-    }
-    if 1 < id {
-        return false;
-    }
-    large <= 1
+    bank <= 1 && id <= 1 && large <= 1
 }
 
+#[tactic(auto, using(lists::proofs::Bools::tests))]
 fn places_allowed(block: u16, place: u8) -> bool
     ensures { result ≡ (leb block 1023 && leb place 67) }
 {
-    if 1023 < block {
-        return false;
-    }
-    place <= 67
+    block <= 1023 && place <= 67
 }
 
 // Question 2, of a chip record: whether its bytes would be allowed.
@@ -177,7 +162,6 @@ pub fn chip_allowed(chip: ChipRecord) -> bool
 {
     let flash = chip.flash;
     let e = chip.eeprom;
-    let phase = e.phase;
     if !flash::state_allowed(flash.state) {
         return false;
     }
@@ -193,5 +177,5 @@ pub fn chip_allowed(chip: ChipRecord) -> bool
     if 67 < e.place {
         return false;
     }
-    e.count < eeprom::count_limit(phase, eeprom::w(e.width, e.large))
+    e.count < eeprom::count_limit(e.phase, eeprom::w(e.width, e.large))
 }

@@ -13,29 +13,11 @@ use refusal::Refusal;
 pub fn state_of(chip: ChipRecord, dirty: bool) -> StateBytes
     ensures { result ≡ state_bytes chip dirty }
 {
-    let b = chip_bytes(chip);
-    [
-        b[0],
-        b[1],
-        b[2],
-        b[3],
-        b[4],
-        b[5],
-        b[6],
-        b[7],
-        b[8],
-        b[9],
-        b[10],
-        b[11],
-        b[12],
-        b[13],
-        b[14],
-        b[15],
-        b[16],
-        b[17],
-        lists::bit(dirty),
-        layout::LAYOUT_2,
-    ]
+    let mut state = [0; layout::STATE_SIZE];
+    state[..layout::CHIP_SIZE].copy_from_slice(&chip_bytes(chip));
+    state[layout::FLAG] = lists::bit(dirty);
+    state[layout::LAYOUT] = layout::LAYOUT_2;
+    state
 }
 
 // Questions 6, 17, 7 to 12 and 18, of a file's bytes, in this order.

@@ -24,6 +24,7 @@ pub fn differing_short(s: &[u8], t: &[u8]) -> u8
 }
 
 // The bytes other than FFh of a short part.
+// Kept: the twin of `differing_short`; what both had in common is now the library's `sum`.
 pub fn used_short(s: &[u8]) -> u8
     requires { length s.now ≤ 255 }
     ensures { result ≡ used s.now }

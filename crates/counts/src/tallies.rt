@@ -3,9 +3,11 @@ ghost use Rattle.std.specs.Prelude.{◌≡◌, ◌≤◌, length, replicate};
 ghost use Rattle.counts.specs.Tallies.{retally, blank, first_in_use, in_use_number};
 
 // The answer of `first_in_use` where no stretch is in use.
+// Kept: C is told a number, and the contract of `first_in_use` says which.
 pub const NONE_IN_USE: u32 = 4294967295;
 
 // Every tally becomes 0.
+// Kept: the twin of `lists::fill`; both are the library's `fill`, each with its own promise and edit.
 pub fn clear(tallies: &mut [u16])
     ensures { tallies.new ≡ replicate (length tallies.old) 0 }
 {
@@ -13,6 +15,7 @@ pub fn clear(tallies: &mut [u16])
 }
 
 // A stretch's tally after a store, by the bytes in use before it and after it.
+#[tactic(auto, unfolding(crate::specs::Tallies::retally))]
 pub fn retally(tally: u16, before: u32, after: u32) -> u16
     requires { (before ≤ 4096) × (after ≤ 4096) }
     ensures { result ≡ retally before after tally }

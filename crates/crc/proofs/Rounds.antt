@@ -4,12 +4,12 @@ use mathlib.Core.List.{List, [], ◌∷◌}
 use Prim.Native.Nat.{ℕ, zero, suc, ◌+◌, ◌*◌, ◌^◌, ◌-◌, ◌<◌, ◌≤◌}
 use native.Mathlib.Omega.{arith}
 use lib.Bits.{bit_xor, xor_comm, xor_shifted}
-use lib.ListN.{length, take, drop, get_or, replicate}
+use lib.ListN.{length, take, drop, get_or}
 use lib.Seq.{drop-drop}
 use Rattle.lists.specs.Lists.{fold}
 use Rattle.lists.proofs.Parts.{spells}
 use Rattle.crc.specs.Crc.{crc_bits, crc_byte}
-use Rattle.crc.specs.Lanes.{each, lane, lane_ends, word_at, words_in, bytes_out}
+use Rattle.crc.specs.Lanes.{started, lane, lane_ends, word_at, words_in, bytes_out}
 use Rattle.crc.proofs.Folds.{fold-take}
 use Rattle.crc.proofs.Polynomial.{xor_assoc, bits-xor, bits-zero}
 
@@ -50,14 +50,6 @@ lane-on x s a i b h =
     ∙ ap (λ (l : List ℕ). fold crc_byte v l) (sym (ap (take 4) (drop-drop i a s) ∙ t))
     ∙ fold-take crc_byte x (drop a s) i 4
 
--- the register of lane k
-pub each-at : (f : ℕ → ℕ → ℕ) (v : List ℕ) (a k : ℕ) → k < length v → get_or (each f a v) k 0 ≡ f (a + 4096 * k) (get_or v k 0)
-each-at f [] a k h = absurd (omega arith)
-each-at f (c ∷ v) a zero h = let e : a + 4096 * 0 ≡ a = omega arith in rw e
-each-at f (c ∷ v) a (suc k) h =
-    let e : a + 4096 + 4096 * k ≡ a + 4096 * suc k = omega arith in
-    each-at f v (a + 4096) k (omega arith) ∙ rw e
-
 -- the bytes of a round that are still to leave
 unfoldable pub leaves : ℕ → List ℕ → List ℕ
 leaves zero v = v
@@ -71,20 +63,20 @@ pub all_left : (k : ℕ) (v : List ℕ) → k ≡ 4 → leaves (4 - k) v ≡ v
 unfolding leaves
 all_left k v e = rw e
 
-pub none_yet : (s : List ℕ) → replicate 8 0 ≡ lane_ends s 0
+pub none_yet : (c : ℕ) (s : List ℕ) → started c ≡ lane_ends c s 0
 unfolding lane_ends lane fold
-none_yet s = refl
+none_yet c s = refl
 
 room : (a i : ℕ) (s : List ℕ) → a ≤ 28672 → length s ≡ 32768 → i + 4 ≤ 4096 → a + i + 4 ≤ length s
 room a i s h l k = omega arith
 
 -- all lanes by four bytes more
-pub round : (s : List ℕ) (i : ℕ) → ((j : ℕ) → get_or s j 0 < 256) → length s ≡ 32768 → i + 4 ≤ 4096
-    → leaves 4 (words_in s i (lane_ends s i)) ≡ lane_ends s (i + 4)
+pub round : (c : ℕ) (s : List ℕ) (i : ℕ) → ((j : ℕ) → get_or s j 0 < 256) → length s ≡ 32768 → i + 4 ≤ 4096
+    → leaves 4 (words_in s i (lane_ends c s i)) ≡ lane_ends c s (i + 4)
 unfolding leaves lane_ends
-round s i b l h =
+round c s i b l h =
     rw (
-      lane-on 0 s 0 i b (room 0 i s (omega arith) l h),
+      lane-on c s 0 i b (room 0 i s (omega arith) l h),
       lane-on 0 s 4096 i b (room 4096 i s (omega arith) l h),
       lane-on 0 s 8192 i b (room 8192 i s (omega arith) l h),
       lane-on 0 s 12288 i b (room 12288 i s (omega arith) l h),

@@ -24,6 +24,10 @@ bytes_out registers = each (λ a c. crc_bits 8 c) 0 registers
 unfoldable pub lane : ℕ → List ℕ → ℕ → ℕ → ℕ
 lane c s a i = fold crc_byte c (take i (drop a s))
 
--- each lane after its first i bytes, in a register that begins at 0
-unfoldable pub lane_ends : List ℕ → ℕ → List ℕ
-lane_ends s i = each (λ a c. lane c s a i) 0 (replicate 8 0)
+-- the first lane continues from c, the others begin at 0
+abbrev pub started : ℕ → List ℕ
+started c = c ∷ replicate 7 0
+
+-- each lane after its first i bytes
+unfoldable pub lane_ends : ℕ → List ℕ → ℕ → List ℕ
+lane_ends c s i = each (λ a x. lane x s a i) 0 (started c)

@@ -15,9 +15,9 @@ fn over_block(table: &[u32; 256], op: &[u32; 32], start: u32, s: &[u8]) -> u32
     requires s_len { length s.now ≡ 32768 }
     ensures { result ≡ fold crc_byte start s.now }
 {
-    let mut c = start;
-    let ends = lane_ends(table, s);
-    for end in &ends {
+    let ends = lane_ends(table, start, s);
+    let mut c = ends[0];
+    for end in &ends[1..] {
         c = join(op, c, *end);
     }
     c

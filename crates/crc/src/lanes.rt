@@ -28,13 +28,13 @@ fn bytes_out(table: &[u32; 256], registers: &mut [u32; 8])
     }
 }
 
-// What each lane leaves in a register that begins at 0.
-pub fn lane_ends(table: &[u32; 256], s: &[u8]) -> [u32; 8]
+// What each lane leaves. The first continues from `c`, the others begin at 0.
+pub fn lane_ends(table: &[u32; 256], c: u32, s: &[u8]) -> [u32; 8]
     requires table_value { is_table 0 table.now ≡ true }
     requires s_len { length s.now ≡ 32768 }
-    ensures { result ≡ lane_ends s.now 4096 }
+    ensures { result ≡ lane_ends c s.now 4096 }
 {
-    let mut registers = [0; 8];
+    let mut registers = [c, 0, 0, 0, 0, 0, 0, 0];
     for word in 0..1024 {
         words_in(&mut registers, s, 4 * word);
         for _ in 0..4u8 {

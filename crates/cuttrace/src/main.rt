@@ -42,6 +42,7 @@ fn read_trace(input: &mut impl Read, text: &mut [u8]) -> io::Result<usize>
     ensures err { OnErr result (length text.new ≡ length text.old) }
 {
     let mut len = 0;
+    // Kept: the step is what a read gave, and no method of `Read` asks after each whether to go on.
     while len < text.len() {
         let n = read_piece(input, &mut text[len..])?;
         if n == 0 {

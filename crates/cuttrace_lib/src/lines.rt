@@ -65,6 +65,7 @@ pub fn collect(text: &[u8], room: &mut [u8]) -> usize
 {
     let mut used = 0;
     let mut i = 0;
+    // Kept: `split` has an empty line after a last line feed, and `split_inclusive` leaves the line feeds in.
     while i < text.len() {
         let end = i + line_length(&text[i..]);
         let item = read_line(&text[i..end], &mut room[used..]);

@@ -91,6 +91,7 @@ pub fn print_lines(
     let mut len = 0;
     let mut at = 0;
     let mut i = 0;
+    // Kept: `split` has an empty line after a last line feed, and `split_inclusive` leaves the line feeds in.
     while i < text.len() {
         let end = i + line_length(&text[i..]);
         let item = read_line(&text[i..end], room);

@@ -1,4 +1,5 @@
 // Buffers for `run_trace`. Each `ensures` gives the length, which is needed to pass an array as a slice.
+// Kept: not one function with a const parameter, since a name says what a room is for and a number at a call does not.
 ghost use Rattle.std.specs.Prelude.{◌≡◌, length};
 
 // For a trace: one character more than the longest, so that a longer one shows.

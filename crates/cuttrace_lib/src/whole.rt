@@ -83,6 +83,7 @@ fn play_lines(
         &mut scratch[..n],
         answers,
     );
+    // Kept: the call is C's, which has a number for a Result.
     if refusal != 0 {
         return frames::print_line(out, (refusal % 256) as u8, b"");
     }

@@ -50,6 +50,7 @@ pub enum Shifted {
 }
 
 // What a bit in leads to: the chip, and what is to be stored.
+// Kept: clauses and definitions call the chip by its name; a step generic in the chip would lose it.
 #[derive(Clone, Copy)]
 pub struct EepromStep {
     pub eeprom: Eeprom,

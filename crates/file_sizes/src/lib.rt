@@ -10,21 +10,23 @@ ghost use Rattle.file_sizes.specs.SaveFit.{chip_size, save_fit, taken, save_size
 pub use doubled::file_door;
 use kind::SaveType;
 
-// Accepted file sizes by kind number, without a footer: the smaller and the larger.
-const FILE_SIZES: [(usize, usize); 6] = [
-    (0, 0),
-    (32768, 65536),
-    (65536, 65536),
-    (131072, 131072),
-    (512, 8192),
-    (512, 8192),
+// Accepted file sizes by kind number, without a footer: the smaller, the larger, and what is kept of the larger.
+// It is a static, since a read of a constant would copy it whole.
+static FILE_SIZES: [(usize, usize, usize); 6] = [
+    (0, 0, 0),
+    (32768, 65536, 32768),
+    (65536, 65536, 65536),
+    (131072, 131072, 131072),
+    (512, 8192, 8192),
+    (512, 8192, 8192),
 ];
 
 #[tactic(auto, unfolding(crate::specs::SaveFit::save_size))]
 pub fn save_size(kind: SaveType) -> usize
     ensures { result ≡ save_size kind }
 {
-    kind::memory_size(kind)
+    let (_, _, kept) = FILE_SIZES[kind as usize];
+    kept
 }
 
 // A file of a chip's size, or with the 16 bytes of a footer.
@@ -36,19 +38,19 @@ fn chip_size(size: usize, file: usize) -> bool
 }
 
 // How many bytes of a save file are kept, or none if the file cannot be this kind's.
-#[tactic(auto, unfolding(crate::specs::SaveFit::save_fit, crate::specs::SaveFit::eeprom_fit, crate::specs::SaveFit::save_size))]
+#[tactic(auto, unfolding(crate::specs::SaveFit::save_fit, crate::specs::SaveFit::eeprom_fit))]
 pub fn save_fit(kind: SaveType, file: usize) -> Option<usize>
     ensures { result ≡ save_fit kind file }
 {
     if kind == SaveType::None {
         return None;
     }
-    let (small, large) = FILE_SIZES[kind as usize];
+    let (small, large, kept) = FILE_SIZES[kind as usize];
     if chip_size(small, file) {
         return Some(small);
     }
     if chip_size(large, file) {
-        return Some(save_size(kind));
+        return Some(kept);
     }
     None
 }

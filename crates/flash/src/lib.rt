@@ -21,6 +21,7 @@ pub struct Flash {
 }
 
 // What a written byte leads to: the chip, and what is to be stored.
+// Kept: clauses and definitions call the chip by its name; a step generic in the chip would lose it.
 #[derive(Clone, Copy)]
 pub struct FlashStep {
     pub flash: Flash,

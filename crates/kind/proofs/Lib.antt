@@ -1,5 +1,4 @@
 pub mod Sizes
 pub mod Numbers
-pub mod Groups
 pub mod Standing
 pub mod Examples

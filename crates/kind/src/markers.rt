@@ -7,7 +7,7 @@ use crate::SaveType;
 use crate::header::{flash_code, ruby_title, sram_code};
 
 // Whether the marker occurs anywhere, however far back.
-fn contains(s: &[u8], marker: &[u8]) -> bool
+pub fn contains(s: &[u8], marker: &[u8]) -> bool
     ensures { result ≡ stands marker.now s.now }
 {
     for place in 0..s.len() {

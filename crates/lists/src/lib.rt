@@ -44,6 +44,7 @@ pub fn bit(b: bool) -> u8
 }
 
 // The number of two, four and eight bytes, low byte first.
+// Kept: one for each size, as the library's `from_le_bytes` is; no type parameter can say the sum.
 pub fn low16(b0: u8, b1: u8) -> u16
     ensures { result ≡ b0 + 256 * b1 }
 {

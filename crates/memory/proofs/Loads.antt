@@ -5,7 +5,7 @@ use Prim.Native.Nat.{ℕ, zero, suc, ◌+◌, ◌*◌, ◌-◌, ◌≤◌, ◌<�
 use native.Mathlib.Nat.{sub-zero, suc-sub-suc}
 use native.Mathlib.Omega.{arith}
 use lib.Dec.{leb}
-use lib.ListN.{length, get_or, set, take, drop, length-take, length-drop, drop_of_length-le, replicate-append-replicate}
+use lib.ListN.{length, get_or, set, take, drop, length-drop, drop_of_length-le, replicate-append-replicate}
 use lib.Seq.{take_all, take-length, drop-length, take-nil, drop-nil, take_at}
 use borrow.Author.Tests.{leb-true, leb-false}
 use Rattle.lists.specs.Lists.{into}
@@ -88,9 +88,6 @@ stretch k m = take (k * 4096 + 4096 - k * 4096) (drop (k * 4096) m)
 abbrev pub file-stretch : ℕ → List ℕ → List ℕ
 file-stretch k f = take (min (k * 4096 + 4096) (length f) - min (k * 4096) (length f)) (drop (min (k * 4096) (length f)) f)
 
-pub file-stretch-le : (k : ℕ) (f : List ℕ) → length (file-stretch k f) ≤ 4096
-file-stretch-le k f = rw (file-part (k * 4096) 4096 f) (omega (arith, length-take 4096 (drop (k * 4096) f)))
-
 stretch-loaded : (k n : ℕ) (f : List ℕ) → k * 4096 + 4096 ≤ n → filled 4096 (file-stretch k f) ≡ stretch k (filled n f)
 stretch-loaded k n f h =
     let e : k * 4096 + 4096 - k * 4096 ≡ 4096 = omega arith in
@@ -102,9 +99,6 @@ pub record Loaded (k : ℕ) (m f ts cur left : List ℕ) (n : ℕ) : Type 0 wher
   pub front : cur ≡ take (k * 4096) (filled (length m) f) ++ drop (k * 4096) m
   pub tallies : left ≡ take k (retallied m (filled (length m) f) ts) ++ drop k ts
   pub count : n + differing (drop (k * 4096) m) (drop (k * 4096) (filled (length m) f)) ≡ differing m (filled (length m) f)
-
-pub loaded-none : {m f ts : List ℕ} → Loaded 0 m f ts m ts 0
-loaded-none = record { front = refl; tallies = refl; count = omega arith }
 
 module _ {m f ts : List ℕ} (size : length m ≡ 4096 * length ts) where
   pub loaded_on : {k : ℕ} → k < length ts → {cur left ys : List ℕ} {n c t : ℕ} → Loaded k m f ts cur left n

@@ -9,7 +9,7 @@ use lib.Seq.{take_all, take-nil, drop-append-add, length-take-le}
 use Rattle.lists.specs.Lists.{digits, with_part}
 use Rattle.lists.proofs.Parts.{length_part, drop-part, drop-replicate}
 use Rattle.memory.specs.declared.Store.{Store}
-use Rattle.memory.specs.Memory.{erased, stored, with_count, Fits, filled}
+use Rattle.memory.specs.Memory.{erased, stored, with_count, filled}
 
 pub length-erased : (n : ℕ) → length (erased n) ≡ n
 unfolding erased
@@ -86,10 +86,7 @@ word_bytes d = rw (div-one d)
 pub length-mid : (m : List ℕ) (a k : ℕ) → a + k ≤ length m → length (take (a + k - a) (drop a m)) ≡ k
 length-mid m a k h = simp (length-take, length-drop) (omega arith)
 
--- what each store asks, and leaves, by its case
-pub fits-case : (store known : Store) (n : ℕ) → store ≡ known → Fits store n → Fits known n
-fits-case store known n e f = subst (λ (s : Store). Fits s n) e f
-
+-- what each store leaves, by its case
 pub stored-case : (store known : Store) (f m ts : List ℕ) {p : ℕ × List ℕ × List ℕ} → store ≡ known
     → p ≡ with_count m (stored known f m) ts → p ≡ with_count m (stored store f m) ts
 stored-case store known f m ts e q = q ∙ ap (λ (s : Store). with_count m (stored s f m) ts) (sym e)

@@ -75,6 +75,7 @@ pub fn apply(store: Store, file: &[u8], memory: &mut [u8], tallies: &mut [u16]) 
 }
 
 // A memory and its tallies at an opening: FFh everywhere, and no byte in use.
+#[tactic(auto, unfolding(crate::specs::Memory::erased))]
 pub fn blank(memory: &mut [u8], tallies: &mut [u16])
     ensures memory_after { memory.new ≡ erased (length memory.old) }
     ensures tallies_after { tallies.new ≡ replicate (length tallies.old) 0 }

@@ -79,6 +79,7 @@ pub fn replace(part: &mut [u8], bytes: &[u8]) -> Change
 }
 
 // FFh everywhere. Answers how many places changed: those that were in use.
+#[tactic(auto, unfolding(crate::specs::Memory::erased))]
 pub fn erase(part: &mut [u8]) -> u32
     requires { length part.old ≤ 4096 }
     ensures value { result ≡ used part.old }

@@ -61,6 +61,7 @@ pub fn read_full(input: &mut impl Read, room: &mut [u8]) -> io::Result<usize>
     ensures err { OnErr result (length room.new ≡ length room.old) }
 {
     let mut done = 0;
+    // Kept: the step is what a read gave, and `read_exact` refuses an input that ends before the room is full.
     while done < room.len() {
         let n = input.read(&mut room[done..])?;
         if n == 0 {

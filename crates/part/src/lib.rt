@@ -20,7 +20,8 @@ pub enum Part {
 }
 
 // By part number: how many bytes a named part has, and its ID word, maker in the low byte, device in the high byte.
-const NAMED_PARTS: [(usize, u16); 6] = [
+// It is a static, since a read of a constant would copy it whole.
+static NAMED_PARTS: [(usize, u16); 6] = [
     (0, 0),
     (65536, 0xD4BF),
     (65536, 0x1CC2),

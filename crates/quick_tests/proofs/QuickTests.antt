@@ -46,9 +46,9 @@ module _ (r : List ℕ) where
       let p : Bool = eqb (get_or r 24 0) 0 in
       eqb-true (get_or r 24 0) 0 (and_right a p (and_left (a && p) (image_length (low_value (take 4 r))) h))
 
-  pub known-usual : is_known r ≡ true → (cart_of r).part ≡ Usual
+  pub known_usual : is_known r ≡ true → (cart_of r).part ≡ Usual
   unfolding cart_of part_of
-  known-usual h = rw (zero-part h) refl
+  known_usual h = rw (zero-part h) refl
 
 -- what `known` shows, test by test
 pub ruleset knows = (low-four, valid-record, unknown-kind, unusual-part, usual-part)

@@ -27,9 +27,6 @@ pub tail-of-front : (out f d : List ℕ) (a : ℕ) → length f ≡ a
     → let out' = f ++ drop a out in take a out' ++ (d ++ drop (length out' - a) (drop a out')) ≡ f ++ d
 tail-of-front out f d a h = tail-put a (f ++ drop a out) d ∙ ap (λ (l : List ℕ). l ++ d) (take_at f (drop a out) a h)
 
-pub first-five : (out l : List ℕ) → 5 ≤ length out → length (take 5 (take 5 out ++ l)) ≡ 5
-first-five out l h = let e = length-take-le 5 out h in ap length (take_at (take 5 out) l 5 e) ∙ e
-
 -- the length of a piece passed from a to e
 pub piece-length : (a e n : ℕ) (l : List ℕ) → e ≡ a + n → e ≤ length l → length (take (e - a) (drop a l)) ≡ n
 piece-length a e n l h k = simp (length-take, length-drop) (omega (arith, h, k))

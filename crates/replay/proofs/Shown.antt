@@ -2,7 +2,7 @@
 use mathlib.Core.Path.{◌≡◌, refl, ap, ◌∙◌}
 use mathlib.Core.Bool.{Bool, true, false}
 use mathlib.Core.List.{List, [], ◌∷◌}
-use Prim.Native.Nat.{ℕ, ◌+◌, ◌-◌, ◌%◌, ◌≤◌}
+use Prim.Native.Nat.{ℕ, ◌+◌, ◌-◌, ◌%◌}
 use native.Mathlib.Omega.{arith}
 use lib.Dec.{eqb}
 use lib.ListN.{length, take, drop}
@@ -19,8 +19,8 @@ use Rattle.cart.proofs.Recoverable.{exported-next}
 use Rattle.state_calls.specs.StateAnswer.{StateAnswer}
 use Rattle.state_calls.specs.StateAnswer.{state_answered}
 use Rattle.call_list.specs.declared.Item.{Item}
-use Rattle.call_list.specs.declared.Item.TheVariants.{LoadSave, SaveData}
-use Rattle.call_list.specs.Items.{item_length, item_room}
+use Rattle.call_list.specs.declared.Item.TheVariants.{SaveData}
+use Rattle.call_list.specs.Items.{item_room}
 use Rattle.replay.specs.Replay.{value_answer, flag_answer, record_answer, left, status_shown, value_shown}
 
 pub shows-status : {reply q : Reply} {m n ts us out : List ℕ} {r : Cartridge} → ◌≡◌ {A = Reply × List ℕ × List ℕ} (reply, m, ts) (q, n, us)
@@ -65,10 +65,6 @@ export-next d s = either (λ (o : Outcome). o.next ≡ s) (eqb (asked (questions
 pub nothing : (l : List ℕ) → length l ≡ 0 → l ≡ []
 nothing [] e = refl
 nothing (b ∷ l) e = absurd (omega arith)
-
--- a load's file ends within the list
-pub load-ends : (i : Item) (n k : ℕ) → i ≡ LoadSave n → item_length i ≤ k → 5 + n ≤ k
-load-ends i n k e h = rw e at h
 
 pub loaded-part : (n : ℕ) (l : List ℕ) → take (5 + n - 5) (drop 5 l) ≡ take n (drop 5 l)
 loaded-part n l = let e : 5 + n - 5 ≡ n = omega arith in rw e

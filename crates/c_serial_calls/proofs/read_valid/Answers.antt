@@ -8,14 +8,8 @@ use Rattle.cart.proofs.Sound.{eeprom-size}
 use Rattle.c_record.specs.RecordBytes.{cart_of}
 use mathlib.Core.Bool.{Bool}
 use Rattle.eeprom.specs.Eeprom.{read_bit}
-use Rattle.c_serial_calls.proofs.SerialCalls.{read-3, read-nothing, read-place, read-end}
+use Rattle.c_serial_calls.proofs.SerialCalls.{read-place}
 use Rattle.c_serial_calls.proofs.read_valid.Goals as goal
-
-pub returns-then-memory-memory_size : goal.returns-then-memory-memory_size
-returns-then-memory-memory_size c =
-    let s = c in
-    let z = c.memory_size.ensures ∙ ap memory_size c.kind_in-kind.ensures in
-    read-3 s.args.cart.now s.args.memory.now s.requires (λ q. c.if-memory-memory_size.true (q ∙ sym z)) s.args.bit.now
 
 pub read_bit-requires : goal.read_bit-requires
 read_bit-requires c =
@@ -34,21 +28,8 @@ draw-requires c =
     let s = c in
     omega (arith, (allowed-bounds (cart_of s.args.cart.now) s.requires.allowed).place_ok, ap (λ (x : Eeprom). x.place) c.eeprom_in-e.ensures)
 
-pub returns-in-Nothing : goal.returns-in-Nothing
-returns-in-Nothing c =
-    let s = c in
-    read-nothing s.args.cart.now s.args.memory.now s.requires (c.if-memory-memory_size.false ∙ c.memory_size.ensures ∙ ap memory_size c.kind_in-kind.ensures) s.args.bit.now _ c.eeprom_in-e.result c.draw.result
-    c.eeprom_in-e.ensures (c.read_bit.ensures ∙ ap₂ (λ (p : Bool) (x : Eeprom). read_bit p x c.args.memory.now) (c.uses_eeprom.ensures ∙ ap uses_eeprom c.kind_in-kind.ensures) c.eeprom_in-e.ensures) c.draw.ensures c.in-Nothing.is
-
 pub returns-in-Place : goal.returns-in-Place
 returns-in-Place c =
     let s = c in
     read-place s.args.cart.now s.args.memory.now s.requires (c.if-memory-memory_size.false ∙ c.memory_size.ensures ∙ ap memory_size c.kind_in-kind.ensures) s.args.bit.now _ c.eeprom_in-e.result c.draw.result
     c.eeprom_in-e.ensures (c.read_bit.ensures ∙ ap₂ (λ (p : Bool) (x : Eeprom). read_bit p x c.args.memory.now) (c.uses_eeprom.ensures ∙ ap uses_eeprom c.kind_in-kind.ensures) c.eeprom_in-e.ensures) c.draw.ensures c.in-Place.place c.in-Place.is c.put_place.ensures
-
-pub returns-in-Ended : goal.returns-in-Ended
-returns-in-Ended c =
-    let s = c in
-    read-end s.args.cart.now s.args.memory.now s.requires (c.if-memory-memory_size.false ∙ c.memory_size.ensures ∙ ap memory_size c.kind_in-kind.ensures) s.args.bit.now _ c.eeprom_in-e.result c.draw.result
-    c.eeprom_in-e.ensures (c.read_bit.ensures ∙ ap₂ (λ (p : Bool) (x : Eeprom). read_bit p x c.args.memory.now) (c.uses_eeprom.ensures ∙ ap uses_eeprom c.kind_in-kind.ensures) c.eeprom_in-e.ensures) c.draw.ensures c.in-Ended.is
-    c.put_ended.ensures

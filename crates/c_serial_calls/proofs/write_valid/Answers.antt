@@ -1,36 +1,15 @@
 -- `c_serial_calls::write_valid` meets its contract. Assumes nothing.
-use mathlib.Core.Path.{sym, ap, ◌∙◌}
+use mathlib.Core.Path.{ap, ◌∙◌}
 use native.Mathlib.Omega.{arith}
 use Rattle.kind.specs.Kind.{memory_size, tally_count, uses_eeprom}
-use Rattle.kind.proofs.Sizes.{whole-stretches}
 use Rattle.eeprom.specs.declared.Eeprom.{Eeprom}
 use Rattle.cart.proofs.Bounds.{allowed-bounds}
 use Rattle.cart.proofs.Sound.{eeprom-size}
 use Rattle.c_record.specs.RecordBytes.{cart_of}
-use Rattle.lists.proofs.Bools.{denied, granted}
+use Rattle.lists.proofs.Bools.{granted}
 use Rattle.eeprom.proofs.Fits.{turned-fits}
-use Rattle.c_serial_calls.proofs.SerialCalls.{write-3, write-16, write-4, write-more, write-turn}
+use Rattle.c_serial_calls.proofs.SerialCalls.{write-more, write-turn}
 use Rattle.c_serial_calls.proofs.write_valid.Goals as goal
-
-pub returns-then-memory-memory_size : goal.returns-then-memory-memory_size
-returns-then-memory-memory_size c =
-    let s = c in
-    let z = c.memory_size.ensures ∙ ap memory_size c.kind_in-kind.ensures in
-    write-3 s.args.cart.now s.args.memory.now s.requires (λ q. c.if-memory-memory_size.true (q ∙ sym z)) s.args.tallies.now s.args.value s.args.changed.now
-
-pub returns-then-tallies-tally_count : goal.returns-then-tallies-tally_count
-returns-then-tallies-tally_count c =
-    let s = c in
-    let k = c.kind_in-kind.ensures in
-    let z = c.tally_count.ensures ∙ ap tally_count k in
-    write-16 s.args.cart.now s.args.memory.now s.requires (c.if-memory-memory_size.false ∙ c.memory_size.ensures ∙ ap memory_size k) s.args.tallies.now s.args.value s.args.changed.now (λ q. c.if-tallies-tally_count.true (q ∙ sym z))
-
-pub returns-then-not-uses_eeprom : goal.returns-then-not-uses_eeprom
-returns-then-not-uses_eeprom c =
-    let s = c in
-    let k = c.kind_in-kind.ensures in
-    write-4 s.args.cart.now s.args.memory.now s.requires (c.if-memory-memory_size.false ∙ c.memory_size.ensures ∙ ap memory_size k) s.args.tallies.now (c.if-tallies-tally_count.false ∙ c.tally_count.ensures ∙ ap tally_count k) s.args.value s.args.changed.now
-    (denied _ (c.uses_eeprom.ensures ∙ ap uses_eeprom k) c.if-not-uses_eeprom.true)
 
 pub shift-requires : goal.shift-requires
 shift-requires c =
@@ -38,13 +17,14 @@ shift-requires c =
     let b = allowed-bounds (cart_of s.args.cart.now) s.requires.allowed in
     (omega (arith, b.count_ok, ap (λ (e : Eeprom). e.count) c.eeprom_in-e.ensures), omega arith)
 
-pub turn_in-requires : goal.turn_in-requires
-turn_in-requires c =
+pub turn_in-requires-clause-b_bound : goal.turn_in-requires-clause-b_bound
+turn_in-requires-clause-b_bound c =
     let s = c in
     let b = allowed-bounds (cart_of s.args.cart.now) s.requires.allowed in
     let k = c.kind_in-kind in
     let n = c.if-memory-memory_size.false ∙ c.memory_size.ensures in
-    let z = n ∙ ap memory_size k.ensures ∙ eeprom-size (cart_of s.args.cart.now).kind (granted _ (c.uses_eeprom.ensures ∙ ap uses_eeprom k.ensures) c.if-not-uses_eeprom.false) in record { b_bound = (omega arith, turned-fits _ _ _ _ (omega (arith, b.block_ok, z, ap (λ (e : Eeprom). e.block) c.eeprom_in-e.ensures))); tallied = omega (arith, n, c.if-tallies-tally_count.false ∙ c.tally_count.ensures, whole-stretches k.result) }
+    let z = n ∙ ap memory_size k.ensures ∙ eeprom-size (cart_of s.args.cart.now).kind (granted _ (c.uses_eeprom.ensures ∙ ap uses_eeprom k.ensures) c.if-not-uses_eeprom.false) in
+    (omega arith, turned-fits _ _ _ _ (omega (arith, b.block_ok, z, ap (λ (e : Eeprom). e.block) c.eeprom_in-e.ensures)))
 
 pub returns-in-More : goal.returns-in-More
 returns-in-More c =

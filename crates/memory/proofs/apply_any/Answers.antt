@@ -4,36 +4,11 @@ use mathlib.Core.List.{List}
 use Prim.Native.Nat.{ℕ}
 use native.Mathlib.Omega.{arith}
 use lib.ListN.{length}
-use Rattle.memory.specs.declared.Store.TheVariants.{Byte, Block, Sector, Chip, File}
+use Rattle.memory.specs.declared.Store.TheVariants.{Byte, Block, Sector, Chip}
 use Rattle.memory.specs.Memory.{stored, with_count}
-use Rattle.memory.proofs.Memory.{filled_none, fits-case, stored-case}
+use Rattle.memory.proofs.Memory.{filled_none, stored-case}
 use Rattle.memory.proofs.Counts.{none-counted}
 use Rattle.memory.proofs.apply_any.Goals as goal
-
-pub put_byte-requires : goal.put_byte-requires
-put_byte-requires c =
-    let s = c in
-    record { tallied = s.requires.tallied; place_in_bounds = fits-case s.args.store (Byte c.in-Byte.place c.in-Byte.value) (length s.args.memory.now) c.in-Byte.is s.requires.fits }
-
-pub put_block-requires : goal.put_block-requires
-put_block-requires c =
-    let s = c in
-    record { tallied = s.requires.tallied; block_in_bounds = fits-case s.args.store (Block c.in-Block.block c.in-Block.word) (length s.args.memory.now) c.in-Block.is s.requires.fits }
-
-pub erase_sector-requires : goal.erase_sector-requires
-erase_sector-requires c =
-    let s = c in
-    record { tallied = s.requires.tallied; fits = fits-case s.args.store (Sector c.in-Sector.place) (length s.args.memory.now) c.in-Sector.is s.requires.fits }
-
-pub load-requires : goal.load-requires
-load-requires c =
-    let s = c in
-    record { tallied = s.requires.tallied; memory_len_bound = fits-case s.args.store Chip (length s.args.memory.now) c.in-Chip.is s.requires.fits }
-
-pub load-requires-in-File : goal.load-requires-in-File
-load-requires-in-File c =
-    let s = c in
-    record { tallied = s.requires.tallied; memory_len_bound = fits-case s.args.store File (length s.args.memory.now) c.in-File.is s.requires.fits }
 
 pub returns-in-Nothing : goal.returns-in-Nothing
 unfolding stored
@@ -67,9 +42,3 @@ returns-in-Chip c =
     let ts = a.tallies.now in
     stored-case a.store Chip a.file.now m ts c.in-Chip.is
     (c.load.ensures ∙ ap (λ (l : List ℕ). with_count m l ts) (filled_none (length m)))
-
-pub returns-in-File : goal.returns-in-File
-unfolding stored
-returns-in-File c =
-    let a = c.args in
-    stored-case a.store File a.file.now a.memory.now a.tallies.now c.in-File.is c.load-in-File.ensures

@@ -19,13 +19,8 @@ returns-then-scratch-memory c =
     let said = survey-said _ (items 0 c.args.list.now) _ c.survey-s.ensures in
     grind (arith, tests, said.0, said.1, said.2)
 
-pub returns-then-out-end : goal.returns-then-out-end
-returns-then-out-end c =
-    let said = survey-said _ (items 0 c.args.list.now) _ c.survey-s.ensures in
-    grind (arith, tests, said.0, said.1, said.2)
-
-pub returns-then-not-s-2 : goal.returns-then-not-s-2
-returns-then-not-s-2 c =
+pub returns-then-is_none : goal.returns-then-is_none
+returns-then-is_none c =
     let said = survey-said _ (items 0 c.args.list.now) _ c.survey-s.ensures in
     grind (arith, tests, said.0, said.1, said.2)
 

@@ -1,28 +1,29 @@
--- `crc::blocks::over_block` meets its contract: the register is the fold over the lanes so far. Assumes nothing.
-use mathlib.Core.Path.{refl, ap, ◌∙◌}
-use Prim.Native.Nat.{ℕ}
+-- `crc::blocks::over_block` meets its contract: the lanes that are left, from the register as it is. Assumes nothing.
+use mathlib.Core.Path.{sym, ap, ◌∙◌}
+use Prim.Native.Nat.{ℕ, ◌+◌}
 use native.Mathlib.Omega.{arith}
-use mathlib.Core.List.{List}
-use lib.Bits.{bit_xor}
-use lib.ListN.{get_or}
+use lib.ListN.{get_or, take, drop, length-drop}
+use lib.Seq.{take_all}
 use Rattle.lists.specs.Lists.{fold}
-use Rattle.crc.specs.Crc.{crc_bits}
-use Rattle.crc.proofs.Joining.{next-lane, whole-block}
+use Rattle.crc.proofs.Folds.{fold_next, fold_end}
+use Rattle.crc.proofs.Joining.{with_lane, joined}
 use Rattle.crc.proofs.blocks.over_block.Goals as goal
 
 pub loop-end-init : goal.loop-end-init
-unfolding fold
-loop-end-init c = refl
+loop-end-init c =
+    let ends = c.lane_ends-ends.result in
+    ap (fold with_lane (get_or ends 0 0)) (take_all 7 (drop 1 ends) (omega (arith, length-drop 1 ends)))
+    ∙ joined c.args.start c.args.s.now ends c.requires.s_len c.lane_ends-ends.ensures
 
 pub loop-end-preserved : goal.loop-end-preserved
 loop-end-preserved c =
-    let a = c.args in
     let b = c.loop-end in
-    next-lane a.start a.s.now b.end-index b.c c.join-c.result c.requires.s_len (omega arith) b.invariant
-    (c.join-c.ensures ∙ ap (λ (v : List ℕ). bit_xor (crc_bits 32768 b.c) (get_or v b.end-index 0)) c.lane_ends-ends.ensures)
+    let others = take 7 (drop 1 c.lane_ends-ends.result) in
+    ap (λ (x : ℕ). fold with_lane x (drop (b.end-index + 1) others)) c.join-c.ensures
+    ∙ fold_next with_lane b.c others b.end-index (omega arith)
+    ∙ b.invariant
 
 pub returns : goal.returns
 returns c =
-    let a = c.args in
     let b = c.loop-end in
-    b.invariant ∙ whole-block a.start a.s.now b.end-index c.requires.s_len (omega arith)
+    sym (fold_end with_lane b.c (take 7 (drop 1 c.lane_ends-ends.result)) b.end-index (omega arith)) ∙ b.invariant

@@ -7,7 +7,7 @@ use Rattle.crc.proofs.Rounds.{none_yet, round, leaves, leave-one, all_left}
 use Rattle.crc.proofs.lanes.lane_ends.Goals as goal
 
 pub loop-word-init : goal.loop-word-init
-loop-word-init c = none_yet c.args.s.now
+loop-word-init c = none_yet c.args.c c.args.s.now
 
 pub loop-init : goal.loop-init
 loop-init c =
@@ -15,7 +15,7 @@ loop-init c =
     let b = c.loop-word in
     let known = c.type_inv.s in
     ap (leaves 4) (c.words_in.ensures ∙ ap (words_in s (4 * b.word)) b.invariant)
-    ∙ round s (4 * b.word) (λ j. omega (arith, known j)) c.requires.s_len (omega (arith, c.loop-word-test.true))
+    ∙ round c.args.c s (4 * b.word) (λ j. omega (arith, known j)) c.requires.s_len (omega (arith, c.loop-word-test.true))
 
 pub loop-preserved : goal.loop-preserved
 loop-preserved c =
@@ -26,4 +26,4 @@ pub loop-word-preserved : goal.loop-word-preserved
 loop-word-preserved c =
     let e : 4 * c.loop-word.word + 4 ≡ 4 * (c.loop-word.word + 1) = omega arith in
     sym (all_left c.loop.counter c.loop.registers (omega (arith, c.loop-test.false, c.loop.auto.counter-end)))
-    ∙ c.loop.invariant ∙ ap (lane_ends c.args.s.now) e
+    ∙ c.loop.invariant ∙ ap (lane_ends c.args.c c.args.s.now) e

@@ -3,6 +3,7 @@ use mathlib.Core.Path.{ap, ◌∙◌}
 use mathlib.Core.List.{List}
 use Prim.Native.Nat.{ℕ, ◌+◌, ◌*◌, ◌-◌, ◌/◌}
 use native.Mathlib.Omega.{arith}
+use borrow.Author.Rules.{rules}
 use lib.ListN.{length, get_or, take, drop}
 use Rattle.memory.specs.Memory.{erased, stored}
 use Rattle.memory.specs.Replaced.{noted}
@@ -20,7 +21,7 @@ returns c =
     let a = k * 4096 in
     let l = length-erased 4096 in
     part-counted m ts a (a + 4096) k (erased 4096) (omega arith) s.requires.fits (omega arith) (omega arith)
-    (λ i. omega (arith, c.slice_known-2-1.given i))
+    (λ i. search rules)
     (c.fill_part-n.ensures
     ∙ ap (λ (l : List ℕ). noted (take (a + 4096 - a) (drop a m)) l (get_or ts k 0))
     (filled_none (length (take (a + 4096 - a) (drop a m))) ∙ ap erased (length-mid m a 4096 s.requires.fits)))

@@ -1,28 +1,14 @@
 -- `memory::leaves::put_block` meets its contract. Assumes nothing.
-use mathlib.Core.Path.{ap, ◌∙◌}
 use Prim.Native.Nat.{◌+◌, ◌*◌, ◌/◌}
 use native.Mathlib.Omega.{arith}
-use lib.ListN.{length, get_or}
+use borrow.Author.Rules.{rules}
+use lib.ListN.{get_or}
 use Rattle.lists.specs.Lists.{digits}
 use Rattle.memory.specs.Memory.{stored}
 use Rattle.memory.proofs.Memory.{length-word, length-mid}
 use Rattle.memory.proofs.Counts.{part-counted}
 use Rattle.memory.proofs.Replaced.{replaced-noted}
 use Rattle.memory.proofs.leaves.put_block.Goals as goal
-
-pub replace_short-c-requires : goal.replace_short-c-requires
-replace_short-c-requires c =
-    let s = c in
-    let l = length-mid s.args.memory.now (8 * s.args.block) 8 s.requires.block_in_bounds in
-    let w = ap length c.word_bytes-bytes.ensures ∙ length-word s.args.word in
-    (omega (arith, l), omega (arith, l, w))
-
-pub retally-requires : goal.retally-requires
-retally-requires c =
-    let s = c in
-    let l = length-mid s.args.memory.now (8 * s.args.block) 8 s.requires.block_in_bounds in
-    let r = c.replace_short-c.ensures.replaced in
-    (omega (arith, l, r.most-before), omega (arith, l, r.most-after))
 
 pub returns : goal.returns
 unfolding stored
@@ -37,4 +23,4 @@ returns c =
     let r = rw d at c.replace_short-c.ensures in
     let n = replaced-noted (get_or ts (b / 512) 0) (omega (arith, length-mid m a 8 s.requires.block_in_bounds)) r.part_after r.replaced c.retally.ensures in
     part-counted m ts a (a + 8) (b / 512) (digits 256 8 w) (omega (arith, length-word w)) s.requires.block_in_bounds (omega arith) (omega (arith, length-word w))
-    (λ i. omega (arith, c.slice_known-2-1.given i)) n
+    (λ i. search rules) n

@@ -1,23 +1,10 @@
 -- `memory::parts::fill_part` meets its contract. Assumes nothing.
-use mathlib.Core.Path.{sym}
 use native.Mathlib.Omega.{arith}
 use lib.ListN.{length}
-use lib.Seq.{length-take-le}
 use Rattle.counts.proofs.Counts.{differing-le}
 use Rattle.memory.specs.Memory.{filled}
 use Rattle.memory.proofs.Replaced.{filled-changed, before-le, after-le, filled-noted}
 use Rattle.memory.proofs.parts.fill_part.Goals as goal
-
-pub slice_bounds-replace-end-2 : goal.slice_bounds-replace-end-2
-slice_bounds-replace-end-2 c =
-    let s = c in
-    sym (length-take-le (length s.args.bytes.now) s.args.part.now s.requires.1)
-
-pub replace-front-requires : goal.replace-front-requires
-replace-front-requires c =
-    let s = c in
-    let l = length-take-le (length s.args.bytes.now) s.args.part.now s.requires.1 in
-    (omega (arith, l), l)
 
 pub overflow_add-result : goal.overflow_add-result
 overflow_add-result c =

@@ -27,13 +27,12 @@ add-requires c =
     let p = plus-le c.loop-k.invariant.1 c.replace_short-2.ensures.replaced (simp (length-take, length-drop) (omega arith)) in
     (omega (arith, s.requires, p.0), omega (arith, s.requires, p.1), omega (arith, s.requires, p.2))
 
-pub returns : goal.returns
-returns c =
+pub returns-clause-part_after : goal.returns-clause-part_after
+returns-clause-part_after c =
     let s = c in
     let b = c.loop-k in
     let e : length s.args.bytes.now ≡ length b.part = omega arith in
     let r = rw e at c.replace_short-2.ensures in
     let k : b.k ≡ length s.args.part.now / 128 = omega arith in
     let v = rw k at b.invariant.1 in
-    let z = below_all b.invariant.0 s.requires.1 (below_on (omega arith) (omega arith) s.requires.1 v r.part_after r.replaced) in
-    record { part_after = z.0; replaced = rw c.add.ensures z.1 }
+    (below_all b.invariant.0 s.requires.1 (below_on (omega arith) (omega arith) s.requires.1 v r.part_after r.replaced)).0

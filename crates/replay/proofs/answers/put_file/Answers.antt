@@ -1,20 +1,14 @@
 use Rattle.lists.proofs.Parts.{length_rest}
-use mathlib.Core.Path.{sym, ap, ◌∙◌}
+use mathlib.Core.Path.{ap, ◌∙◌}
 use mathlib.Core.List.{◌∷◌, ◌++◌}
 use Prim.Native.Nat.{ℕ}
 use lib.ListN.{replicate}
 use Rattle.cart.specs.Calls.{save_data, step}
 use Rattle.cart.specs.Replies.{state}
 use Rattle.replay.specs.Replay.{four_bytes, file_answer}
-use Rattle.replay.proofs.Pieces.{front-of-tail, first-five}
+use Rattle.replay.proofs.Pieces.{front-of-tail}
 use borrow.Author.Rules.{rules}
 use Rattle.replay.proofs.answers.put_file.Goals as goal
-
-pub slice_bounds-put_length-end-2 : goal.slice_bounds-put_length-end-2
-slice_bounds-put_length-end-2 c = sym (first-five c.args.out.now _ c.requires)
-
-pub put_length-requires : goal.put_length-requires
-put_length-requires c = first-five c.args.out.now _ c.requires
 
 pub returns : goal.returns
 returns c = let a = c.args in

@@ -1,7 +1,6 @@
 use mathlib.Core.Path.{refl, sym, ap, ◌∙◌}
 use mathlib.Core.List.{[], ◌∷◌}
 use mathlib.Core.Bool.{Bool}
-use native.Mathlib.Omega.{arith}
 use lib.ListN.{length}
 use borrow.Author.Tests.{eq-eqb, ne_eqb}
 use Rattle.lists.specs.Questions.{asked, ◌else◌}
@@ -15,7 +14,6 @@ use Rattle.part.specs.Part.{number_fits}
 use Rattle.cart.specs.Record.{memory_question, tally_question}
 use Rattle.call_list.specs.Items.{items}
 use Rattle.call_list.specs.ListQuestions.{list_questions}
-use Rattle.kind.proofs.Sizes.{memory-small}
 use Rattle.replay.specs.Replay.{own_tallies}
 use Rattle.replay.proofs.Whole.{own-many}
 use Rattle.replay.proofs.exported.ask.Goals as goal
@@ -42,9 +40,6 @@ returns-then-not-number_fits c =
     let n = c.memory_size.ensures ∙ ap memory_size k in
     let f = denied _ (c.number_fits.ensures ∙ ap (number_fits c.args.part) k) c.if-not-number_fits.true in
     rw (e, ← n, eq-eqb _ _ c.if-memory-memory_size.false, own-many c.args.image.now, f)
-
-pub ask_list-requires : goal.ask_list-requires
-ask_list-requires c = omega (arith, c.if-memory-memory_size.false, c.memory_size.ensures, memory-small c.detect_save_type-kind.result)
 
 pub returns : goal.returns
 returns c =

@@ -1,5 +1,5 @@
 -- `replay::exported::gbasave_replay` meets its contract. Assumes nothing.
-use mathlib.Core.Path.{refl, sym, ap, ◌∙◌}
+use mathlib.Core.Path.{refl, ap, ◌∙◌}
 use native.Mathlib.Omega.{arith}
 use Prim.Native.Nat.{ℕ, ◌/◌}
 use lib.ListN.{length, take, replicate}
@@ -17,18 +17,6 @@ returns-in-Err c =
     let e = c.in-Err.refusal in
     ap (λ (n : ℕ). (n, a.memory.now, a.scratch.now, a.out.now)) (c.from.ensures ∙ c.number.ensures)
     ∙ refused a.image.now a.part a.list.now a.memory.now a.scratch.now a.out.now (refusal_number e) c.in-Err.ensures (not-0 e)
-
-pub slice_bounds-tallies-end : goal.slice_bounds-tallies-end
-slice_bounds-tallies-end c =
-    let a = c.args in
-    let m = memory-length a.image.now a.part a.list.now a.memory.now a.scratch.now a.out.now 0 c.in_default.ensures refl in
-    omega (arith, m, memory-small (detect_save_type a.image.now))
-
-pub slice_bounds-open_and_run-end : goal.slice_bounds-open_and_run-end
-slice_bounds-open_and_run-end c =
-    let a = c.args in
-    let m = memory-length a.image.now a.part a.list.now a.memory.now a.scratch.now a.out.now 0 c.in_default.ensures refl in
-    sym (length-take-le _ c.room-tallies.result (omega (arith, m, memory-small (detect_save_type a.image.now), c.room-tallies.ensures)))
 
 pub open_and_run-requires : goal.open_and_run-requires
 open_and_run-requires c =

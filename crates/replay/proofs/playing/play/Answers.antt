@@ -1,7 +1,6 @@
 use mathlib.Core.Path.{refl, sym, ap, ◌∙◌}
 use mathlib.Core.List.{List, []}
 use Prim.Native.Nat.{ℕ, ◌-◌}
-use native.Mathlib.Omega.{arith}
 use lib.ListN.{length, replicate}
 use Rattle.cart.specs.Record.{Outcome}
 use Rattle.cart.specs.Calls.{save_read, eeprom_begin_dma, eeprom_read, load_save, save_data, chip_state, take_save_dirty, step}
@@ -11,41 +10,8 @@ use Rattle.call_list.specs.declared.Item.{Item}
 use Rattle.call_list.specs.declared.Item.TheVariants.{BeginDma}
 use Rattle.call_list.specs.Items.{item_room}
 use Rattle.replay.specs.Replay.{status_answer, value_answer, flag_answer, record_answer, file_answer, left, play, cut_at}
-use Rattle.replay.proofs.Shown.{shows-status, beside, shows-value, shows-flag, shows-state, export-next, nothing, load-ends, loaded-part, file-room}
+use Rattle.replay.proofs.Shown.{shows-status, beside, shows-value, shows-flag, shows-state, export-next, nothing, loaded-part, file-room}
 use Rattle.replay.proofs.playing.play.Goals as goal
-
-pub show_value-requires : goal.show_value-requires
-show_value-requires c = c.requires.out_len ∙ ap item_room c.in-SaveRead.is
-
-pub show_status-requires : goal.show_status-requires
-show_status-requires c = c.requires.out_len ∙ ap item_room c.in-SaveWrite.is
-
-pub show_value-requires-in-EepromRead : goal.show_value-requires-in-EepromRead
-show_value-requires-in-EepromRead c = c.requires.out_len ∙ ap item_room c.in-EepromRead.is
-
-pub show_status-requires-in-EepromWrite : goal.show_status-requires-in-EepromWrite
-show_status-requires-in-EepromWrite c = c.requires.out_len ∙ ap item_room c.in-EepromWrite.is
-
-pub show_status-requires-in-BeginDma : goal.show_status-requires-in-BeginDma
-show_status-requires-in-BeginDma c = c.requires.out_len ∙ ap item_room c.in-BeginDma.is
-
-pub show_value-requires-in-TakeFlag : goal.show_value-requires-in-TakeFlag
-show_value-requires-in-TakeFlag c = c.requires.out_len ∙ ap item_room c.in-TakeFlag.is
-
-pub put_state-requires : goal.put_state-requires
-put_state-requires c = c.requires.out_len ∙ ap item_room c.in-ChipState.is
-
-pub overflow_add-n : goal.overflow_add-n
-overflow_add-n c = record { fits = omega (arith, load-ends c.args.item _ (length c.args.list.now) c.in-LoadSave.is c.requires.item_in_bounds, c.well_formed) }
-
-pub slice_bounds-load_save-end : goal.slice_bounds-load_save-end
-slice_bounds-load_save-end c = load-ends c.args.item _ (length c.args.list.now) c.in-LoadSave.is c.requires.item_in_bounds
-
-pub show_status-requires-in-LoadSave : goal.show_status-requires-in-LoadSave
-show_status-requires-in-LoadSave c = c.requires.out_len ∙ ap item_room c.in-LoadSave.is
-
-pub put_file-requires : goal.put_file-requires
-put_file-requires c = omega (arith, c.requires.out_len, ap item_room c.in-SaveData.is)
 
 pub returns-in-SaveRead : goal.returns-in-SaveRead
 unfolding play

@@ -1,4 +1,4 @@
-use mathlib.Core.Path.{◌≡◌, sym, ◌∙◌}
+use mathlib.Core.Path.{◌≡◌, ◌∙◌}
 use mathlib.Core.List.{◌∷◌, ◌++◌}
 use Prim.Native.Nat.{◌+◌, ◌-◌}
 use native.Mathlib.Omega.{arith}
@@ -9,12 +9,6 @@ use Rattle.cart.specs.Replies.{state}
 use Rattle.replay.specs.Replay.{file_answer, ending}
 use Rattle.replay.proofs.Pieces.{tail-of-front}
 use Rattle.replay.proofs.running.end_with.Goals as goal
-
-pub slice_bounds-put_file-end-2 : goal.slice_bounds-put_file-end-2
-slice_bounds-put_file-end-2 c = sym (length-take-le (5 + length c.args.memory.now) c.args.out.now (omega (arith, c.requires)))
-
-pub put_file-requires : goal.put_file-requires
-put_file-requires c = let e = length-take-le (5 + length c.args.memory.now) c.args.out.now (omega (arith, c.requires)) in omega (arith, e)
 
 pub returns : goal.returns
 unfolding ending

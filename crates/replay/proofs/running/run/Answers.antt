@@ -2,12 +2,11 @@ use mathlib.Core.Path.{◌≡◌, refl, ap, ◌∙◌}
 use mathlib.Core.List.{List, ◌++◌}
 use Prim.Native.Nat.{ℕ, ◌+◌}
 use lib.ListN.{take, drop}
-use Rattle.lists.proofs.Parts.{length_rest, rest}
+use Rattle.lists.proofs.Parts.{rest}
 use Rattle.kind.proofs.Sizes.{memory-small}
 use Rattle.cart.specs.Replies.{tallied}
 use Rattle.cart.proofs.Sound.{record-allowed}
 use Rattle.call_list.specs.Items.{item_in}
-use Rattle.call_list.proofs.Places.{takes-some}
 use Rattle.replay.specs.Replay.{left, play, cut_at}
 use Rattle.replay.proofs.Pieces.{piece-length}
 use Rattle.replay.proofs.Runs.{has_room}
@@ -20,28 +19,6 @@ pub loop-i-init : goal.loop-i-init
 loop-i-init c = let a = c.args in
     ran-start a.image.now a.part a.list.now a.memory.now a.tallies.now a.scratch.now a.out.now a.fresh c.requires.tallies_value_2 c.requires.tallies_value c.requires.image_value c.requires.memory_in_bounds_2
 
-pub slice_bounds-item_in-count : goal.slice_bounds-item_in-count
-slice_bounds-item_in-count c = c.loop-i.invariant.place_ok
-
-pub slice_bounds-item_in-start : goal.slice_bounds-item_in-start
-slice_bounds-item_in-start c = c.loop-i.invariant.place_ok
-
-pub item_in-item-requires : goal.item_in-item-requires
-item_in-item-requires c = omega (arith, length_rest c.loop-i.i c.args.list.now, c.loop-i-test)
-
-pub item_room-requires : goal.item_room-requires
-item_room-requires c = omega (arith, c.item_in-item.ensures.result_in_bounds.1)
-
-pub overflow_add-end : goal.overflow_add-end
-overflow_add-end c = let l = c.args.list.now in
-    omega (arith, c.item_room.ensures, has_room c.loop-i.invariant (omega (arith, c.loop-i-test)) c.item_in-item.result (c.item_in-item.ensures.value ∙ ap item_in (rest c.loop-i.i l)), c.well_formed)
-
-pub slice_bounds-play-count : goal.slice_bounds-play-count
-slice_bounds-play-count c = c.loop-i.invariant.place_ok
-
-pub slice_bounds-play-start : goal.slice_bounds-play-start
-slice_bounds-play-start c = c.loop-i.invariant.place_ok
-
 pub slice_bounds-play-end-in-loop-i : goal.slice_bounds-play-end-in-loop-i
 slice_bounds-play-end-in-loop-i c = let l = c.args.list.now in
     omega (arith, c.item_room.ensures, has_room c.loop-i.invariant (omega (arith, c.loop-i-test)) c.item_in-item.result (c.item_in-item.ensures.value ∙ ap item_in (rest c.loop-i.i l)), out-length c.loop-i.invariant)
@@ -53,15 +30,6 @@ play-cart-requires c = let b = c.loop-i in
     let n = c.item_room.result in
     let s = tallied b.cart b.memory b.tallies in
     record { item_in_bounds = c.item_in-item.ensures.result_in_bounds.0; out_len = piece-length b.at (b.at + n) n b.out refl (omega (arith, c.item_room.ensures, k, out-length b.invariant)) ∙ c.item_room.ensures; cart_value = record-allowed s b.invariant.stands.sound; memory_len = b.invariant.stands.sound.memory_ok; memory_in_bounds = omega (arith, b.invariant.memory_ok, b.invariant.scratch_ok, c.requires.memory_in_bounds) }
-
-pub item_length-i-requires : goal.item_length-i-requires
-item_length-i-requires c = omega (arith, c.item_in-item.ensures.result_in_bounds.0, length_rest c.loop-i.i c.args.list.now, c.well_formed)
-
-pub overflow_add-i : goal.overflow_add-i
-overflow_add-i c = omega (arith, c.item_length-i.ensures, c.item_in-item.ensures.result_in_bounds.0, length_rest c.loop-i.i c.args.list.now, c.loop-i-test, c.well_formed)
-
-pub loop-i-smaller : goal.loop-i-smaller
-loop-i-smaller c = omega (arith, c.item_length-i.ensures, takes-some c.item_in-item.result, c.loop-i-test)
 
 pub loop-i-preserved : goal.loop-i-preserved
 loop-i-preserved c = let b = c.loop-i in
@@ -81,32 +49,6 @@ pub ending_room-requires : goal.ending_room-requires
 ending_room-requires c =
     let b = c.loop-i in
     omega (arith, b.invariant.stands.sound.memory_ok, memory-small b.cart.kind)
-
-pub overflow_add-end-2 : goal.overflow_add-end-2
-overflow_add-end-2 c = omega (arith, c.ending_room.ensures, c.loop-i.invariant.room_ok, c.well_formed)
-
-pub slice_bounds-end_with-end : goal.slice_bounds-end_with-end
-slice_bounds-end_with-end c =
-    let b = c.loop-i in
-    omega (arith, c.ending_room.ensures, b.invariant.room_ok, out-length b.invariant)
-
-pub end_with-requires : goal.end_with-requires
-end_with-requires c =
-    let b = c.loop-i in
-    let r = c.ending_room in
-    piece-length b.at (b.at + r.result) r.result b.out refl (omega (arith, r.ensures, b.invariant.room_ok, out-length b.invariant)) ∙ r.ensures
-
-pub shape_of-memory : goal.shape_of-memory
-shape_of-memory c = c.loop-i.invariant.memory_ok
-
-pub shape_of-tallies : goal.shape_of-tallies
-shape_of-tallies c = c.loop-i.invariant.tallies_ok
-
-pub shape_of-scratch : goal.shape_of-scratch
-shape_of-scratch c = c.loop-i.invariant.scratch_ok
-
-pub shape_of-out : goal.shape_of-out
-shape_of-out c = c.out-2-1.given.1 ∙ out-length c.loop-i.invariant
 
 pub returns : goal.returns
 returns c =

@@ -1,9 +1,0 @@
--- `c_serial_calls::eeprom_read` meets its contract. Assumes nothing.
-use mathlib.Core.Path.{refl}
-use Rattle.lists.proofs.Bools.{granted}
-use Rattle.c_serial_calls.proofs.eeprom_read.Goals as goal
-
-pub read_valid-requires : goal.read_valid-requires
-read_valid-requires c =
-    let k = c.known.ensures in
-    k.valid (c.serial_usual.ensures (granted _ refl c.if-not-serial_usual.false) (granted _ k.value c.if-not-known.false))
