@@ -1,7 +1,7 @@
 // Makes the call of a frame and prints its answer at the front of `out`. A text that is not a frame has no answer, and
 // changes nothing.
-ghost use Rattle.std.specs.Prelude.{◌≤◌, length};
 
+use crate::Output;
 use crate::digits::decode;
 use crate::images::image_answer;
 use crate::kinds::{fit, kind_of, size};
@@ -13,9 +13,7 @@ use chip_record::CHIP_SIZE;
 use frames::{Frame, Line};
 use part::Part;
 
-fn status(cart: Cartridge, reply: Reply, out: &mut [u8]) -> Played
-    requires { 256 ≤ length out.old }
-{
+fn status(cart: Cartridge, reply: Reply, out: &mut Output) -> Played {
     match reply {
         Ok(accepted) => Played {
             cart: accepted.cart,
@@ -42,10 +40,8 @@ fn bit_in(
     cart: Cartridge,
     memory: &mut [u8],
     tallies: &mut [u16],
-    out: &mut [u8],
-) -> Played
-    requires { 256 ≤ length out.old }
-{
+    out: &mut Output,
+) -> Played {
     let rest = Rest {
         len: cart.len,
         kind: cart.kind,
@@ -71,10 +67,8 @@ fn trace_frame(
     cart: Cartridge,
     memory: &mut [u8],
     tallies: &mut [u16],
-    out: &mut [u8],
-) -> Option<Played>
-    requires { 256 ≤ length out.old }
-{
+    out: &mut Output,
+) -> Option<Played> {
     match frames::frame_in(line_of(text)) {
         Frame::Bad => None,
         Frame::EepromWrite(value) => Some(bit_in(value, cart, memory, tallies, out)),
@@ -89,10 +83,8 @@ fn load(
     cart: Cartridge,
     memory: &mut [u8],
     tallies: &mut [u16],
-    out: &mut [u8],
-) -> Option<Played>
-    requires { 256 ≤ length out.old }
-{
+    out: &mut Output,
+) -> Option<Played> {
     let mut room = [0; 131328];
     let file = room.get_mut(..len as usize)?;
     make_file(file, seed);
@@ -101,9 +93,7 @@ fn load(
 }
 
 // The length and the CRC of a file in a room.
-fn print_file(room: &[u8], len: u32, out: &mut [u8]) -> usize
-    requires { 256 ≤ length out.old }
-{
+fn print_file(room: &[u8], len: u32, out: &mut Output) -> usize {
     let file = &room[..(len as usize).min(room.len())];
     let mut answer = [0; 8];
     answer[..4].copy_from_slice(&len.to_be_bytes());
@@ -112,9 +102,7 @@ fn print_file(room: &[u8], len: u32, out: &mut [u8]) -> usize
 }
 
 // 09.
-fn export(cart: Cartridge, memory: &[u8], out: &mut [u8]) -> Played
-    requires { 256 ≤ length out.old }
-{
+fn export(cart: Cartridge, memory: &[u8], out: &mut Output) -> Played {
     let mut room = [0; 131328];
     match file_calls::save_data(cart, memory, &mut room) {
         Ok(accepted) => Played {
@@ -135,10 +123,8 @@ fn fresh(
     cart: Cartridge,
     memory: &mut [u8],
     tallies: &mut [u16],
-    out: &mut [u8],
-) -> Option<Played>
-    requires { 256 ≤ length out.old }
-{
+    out: &mut Output,
+) -> Option<Played> {
     let kind = kind_of(kind)?;
     if let Err(refusal) = image::ask_length(len as usize) {
         return Some(Played {
@@ -162,10 +148,8 @@ fn frame_answer(
     cart: Cartridge,
     memory: &mut [u8],
     tallies: &mut [u16],
-    out: &mut [u8],
-) -> Option<Played>
-    requires { 256 ≤ length out.old }
-{
+    out: &mut Output,
+) -> Option<Played> {
     match frame {
         [0x01..=0x07, ..] => trace_frame(text, cart, memory, tallies, out),
         [0x08, a, b, c, seed] => {
@@ -200,10 +184,8 @@ pub fn answer(
     cart: Cartridge,
     memory: &mut [u8],
     tallies: &mut [u16],
-    out: &mut [u8],
-) -> Option<Played>
-    requires { 256 ≤ length out.old }
-{
+    out: &mut Output,
+) -> Option<Played> {
     let mut room = [0; 256];
     let frame = decode(&mut room, text)?;
     if let [0x0B, kind, a, b, c, d] = frame {

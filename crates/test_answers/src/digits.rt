@@ -1,5 +1,4 @@
-// Digits to bytes, and bytes to numbers, highest first.
-ghost use Rattle.std.specs.Prelude.{◌<◌, IfSome};
+// Digits to bytes.
 
 // The byte of two digits, if both characters are digits.
 pub fn pair(high: u8, low: u8) -> Option<u8> {
@@ -12,8 +11,8 @@ pub fn decode<'a>(room: &'a mut [u8], text: &[u8]) -> Option<&'a [u8]> {
     if !rest.is_empty() || room.len() < pairs.len() {
         return None;
     }
-    for (byte, pair_of) in room.iter_mut().zip(pairs) {
-        *byte = pair(pair_of[0], pair_of[1])?;
+    for (byte, [high, low]) in room.iter_mut().zip(pairs) {
+        *byte = pair(*high, *low)?;
     }
     room.get(..pairs.len())
 }

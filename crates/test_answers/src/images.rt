@@ -1,6 +1,6 @@
 // An image on its own.
-ghost use Rattle.std.specs.Prelude.{◌≤◌, length};
 
+use crate::Output;
 use crate::made::{make_image, put_text};
 use cart::{Cartridge, Reply};
 use part::Part;
@@ -13,9 +13,7 @@ fn opened(image: &[u8], memory: &mut [u8], tallies: &mut [u16]) -> Reply {
 }
 
 // Kind, header check, CRC, `save_size`, `eeprom_window_start`, and the title with its length in front.
-fn print_image(image: &[u8], cart: Cartridge, out: &mut [u8]) -> usize
-    requires { 256 ≤ length out.old }
-{
+fn print_image(image: &[u8], cart: Cartridge, out: &mut Output) -> usize {
     let mut answer = [0; 51];
     let title = title::header_title(image, &mut answer[15..]).unwrap_or(0);
     let title = title.min(36) as u8;
@@ -33,9 +31,7 @@ fn print_image(image: &[u8], cart: Cartridge, out: &mut [u8]) -> usize
 }
 
 // Opens the image and asks it; memory and tallies are not kept.
-fn ask(image: &[u8], out: &mut [u8]) -> usize
-    requires { 256 ≤ length out.old }
-{
+fn ask(image: &[u8], out: &mut Output) -> usize {
     let mut memory = [0; 131072];
     let mut tallies = [0; 32];
     match opened(image, &mut memory, &mut tallies) {
@@ -45,9 +41,13 @@ fn ask(image: &[u8], out: &mut [u8]) -> usize
 }
 
 // 10 image length (8) seed (2) offset (8) text (0 to 66).
-pub fn image_answer(len: u32, seed: u8, place: u32, text: &[u8], out: &mut [u8]) -> Option<usize>
-    requires { 256 ≤ length out.old }
-{
+pub fn image_answer(
+    len: u32,
+    seed: u8,
+    place: u32,
+    text: &[u8],
+    out: &mut Output,
+) -> Option<usize> {
     let mut room = [0; 4096];
     let image = room.get_mut(..len as usize)?;
     if len < place {

@@ -19,6 +19,9 @@ use score::Score;
 use std::io;
 use stretches::{by_reading, by_tallies};
 
+// Room for every printed answer.
+type Output = [u8; 256];
+
 // A line: frame, one space, answer.
 fn frame_and_answer(line: &[u8]) -> (&[u8], &[u8]) {
     match line.iter().position(|c| *c == b' ') {
