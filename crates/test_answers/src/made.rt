@@ -25,6 +25,7 @@ pub fn make_image(image: &mut [u8], seed: u8) {
 }
 
 // Writes a text at a place; what would go past the end is left out.
+// Kept: `put` of test_vectors has the same lines; a crate for both would be longer than they are.
 pub fn put_text(image: &mut [u8], place: usize, text: &[u8]) {
     for (to, from) in image.iter_mut().skip(place).zip(text) {
         *to = *from;

@@ -20,6 +20,7 @@ use std::io;
 use stretches::{by_reading, by_tallies};
 
 // Room for every printed answer.
+// Kept: what prints one returns its length, as `frames::print_line` and `carttrace_lib::play` do.
 type Output = [u8; 256];
 
 // A line: frame, one space, answer.

@@ -8,6 +8,7 @@ use std::fmt;
 #[derive(Clone, Copy, PartialEq, Eq)]
 pub struct Stretches {
     blank: bool,
+    // Kept: NONE_IN_USE for none, as `state_calls::first_in_use` answers.
     first: u32,
 }
 
