@@ -11,6 +11,7 @@ use carttrace_lib::Played;
 use chip_by_reference::Rest;
 use chip_record::CHIP_SIZE;
 use frames::{Frame, Line};
+use kind::SaveType;
 use part::Part;
 
 fn status(cart: Cartridge, reply: Reply, out: &mut Output) -> Played {
@@ -118,27 +119,26 @@ fn export(cart: Cartridge, memory: &[u8], out: &mut Output) -> Played {
 
 // 0B kind (2) image length (8).
 fn fresh(
-    kind: u8,
+    kind: SaveType,
     len: u32,
     cart: Cartridge,
     memory: &mut [u8],
     tallies: &mut [u16],
     out: &mut Output,
-) -> Option<Played> {
-    let kind = kind_of(kind)?;
+) -> Played {
     if let Err(refusal) = image::ask_length(len as usize) {
-        return Some(Played {
+        return Played {
             cart,
             len: frames::print_line(out, refusal.number(), b""),
-        });
+        };
     }
     let n = kind::memory_size(kind).min(memory.len());
     let k = kind::tally_count(kind).min(tallies.len());
     memory::blank(&mut memory[..n], &mut tallies[..k]);
-    Some(Played {
+    Played {
         cart: cart::fresh_cart(len as usize, kind, Part::Usual),
         len: frames::print_line(out, 0, b""),
-    })
+    }
 }
 
 // A frame as text and as bytes, with memory and tallies of the record's kind.
@@ -162,11 +162,12 @@ fn frame_answer(
             Some(status(cart, reply, out))
         }
         [0x0C, kind, a, b, c, d] => {
-            let len = fit(*kind, u32::from_be_bytes([*a, *b, *c, *d]), out)?;
+            let len = u32::from_be_bytes([*a, *b, *c, *d]);
+            let len = fit(kind_of(*kind)?, len, out);
             Some(Played { cart, len })
         }
         [0x0D, kind] => {
-            let len = size(*kind, out)?;
+            let len = size(kind_of(*kind)?, out);
             Some(Played { cart, len })
         }
         [0x10, a, b, c, d, seed, e, f, g, h, text @ ..] => {
@@ -190,7 +191,8 @@ pub fn answer(
     let frame = decode(&mut room, text)?;
     if let [0x0B, kind, a, b, c, d] = frame {
         let len = u32::from_be_bytes([*a, *b, *c, *d]);
-        return fresh(*kind, len, cart, memory, tallies, out);
+        let kind = kind_of(*kind)?;
+        return Some(fresh(kind, len, cart, memory, tallies, out));
     }
     let n = kind::memory_size(cart.kind).min(memory.len());
     let k = kind::tally_count(cart.kind).min(tallies.len());

@@ -2,6 +2,7 @@
 
 use crate::Output;
 use kind::SaveType;
+use refusal::Refusal;
 
 // A kind by its number.
 pub fn kind_of(number: u8) -> Option<SaveType> {
@@ -14,14 +15,14 @@ fn print_number(x: usize, out: &mut Output) -> usize {
 }
 
 // 0C kind (2) length (8).
-pub fn fit(kind: u8, len: u32, out: &mut Output) -> Option<usize> {
-    match file_sizes::save_fit(kind_of(kind)?, len as usize) {
-        Some(n) => Some(print_number(n, out)),
-        None => Some(frames::print_line(out, 14, b"")),
+pub fn fit(kind: SaveType, len: u32, out: &mut Output) -> usize {
+    match file_sizes::save_fit(kind, len as usize) {
+        Some(n) => print_number(n, out),
+        None => frames::print_line(out, Refusal::FileLength.number(), b""),
     }
 }
 
 // 0D kind (2).
-pub fn size(kind: u8, out: &mut Output) -> Option<usize> {
-    Some(print_number(file_sizes::save_size(kind_of(kind)?), out))
+pub fn size(kind: SaveType, out: &mut Output) -> usize {
+    print_number(file_sizes::save_size(kind), out)
 }

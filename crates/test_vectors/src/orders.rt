@@ -34,6 +34,7 @@ fn orders_from(rt: &impl Print, texts: [&[u8]; 5], place: usize) -> io::Result<(
 // All five; then without those that would decide, with a `-` in their slots.
 pub fn orders(rt: &impl Print) -> io::Result<()> {
     let mut texts = MARKERS;
+    // Kept: the place is also the one from which on the orders differ.
     for place in 0..4 {
         orders_from(rt, texts, place)?;
         texts[place] = b"-";
