@@ -1,45 +1,38 @@
-// Makes the call of a frame and prints its answer at the front of `out`.
-ghost use Rattle.std.specs.Prelude.{◌≤◌, length};
+// Makes the call of a frame and prints its answer at the front of `out`. A text that is not a frame has no answer, and
+// changes nothing.
 
-use crate::digits::{byte, bytes_of, decode, number};
+use crate::Output;
+use crate::digits::decode;
 use crate::images::image_answer;
-use crate::kinds::{Kind, fit, kind_of, size};
+use crate::kinds::{fit, kind_of, size};
 use crate::made::make_file;
-use crate::rooms::{at_most, at_most_tallies, file_room, line_room};
 use cart::{Cartridge, Reply};
 use carttrace_lib::Played;
+use chip_by_reference::Rest;
 use chip_record::CHIP_SIZE;
 use frames::{Frame, Line};
 use kind::SaveType;
 use part::Part;
 
-fn played(cart: Cartridge, len: usize) -> Played {
-    Played {
-        cart: cart,
-        len: len,
+fn status(cart: Cartridge, reply: Reply, out: &mut Output) -> Played {
+    match reply {
+        Ok(accepted) => Played {
+            cart: accepted.cart,
+            len: frames::print_line(out, 0, b""),
+        },
+        Err(refusal) => Played {
+            cart,
+            len: frames::print_line(out, refusal.number(), b""),
+        },
     }
-}
-
-// For a text that is not a frame.
-fn no_answer(cart: Cartridge) -> Played {
-    played(cart, 0)
-}
-
-fn status(reply: Reply, out: &mut [u8]) -> Played
-    requires { 256 ≤ length out.old }
-{
-    let cart = reply.cart;
-    played(cart, frames::print_line(out, reply.refusal, b""))
 }
 
 fn line_of(frame: &[u8]) -> Line {
-    let mut l = frames::empty_line();
-    let mut i = 0;
-    while i < frame.len() {
-        l = frames::push(l, frame[i]);
-        i += 1;
+    let mut line = frames::empty_line();
+    for c in frame {
+        line = frames::push(line, *c);
     }
-    l
+    line
 }
 
 // 04: the serial bit in by the thin call, on a chip record passed by reference.
@@ -48,26 +41,25 @@ fn bit_in(
     cart: Cartridge,
     memory: &mut [u8],
     tallies: &mut [u16],
-    out: &mut [u8],
-) -> Played
-    requires { 256 ≤ length out.old }
-{
-    let kind = cart.kind;
-    let part = cart.part;
-    let chip = cart.chip;
-    let r = chip_by_reference::eeprom_write_copy(
-        chip, cart.len, kind, part, cart.dirty, memory, tallies, value,
-    );
-    let after = r.chip;
-    let reply = r.reply;
-    let next = Cartridge {
+    out: &mut Output,
+) -> Played {
+    let rest = Rest {
         len: cart.len,
-        kind: kind,
-        part: part,
-        dirty: reply.dirty,
-        chip: after,
+        kind: cart.kind,
+        part: cart.part,
+        dirty: cart.dirty,
     };
-    played(next, frames::print_line(out, reply.refusal, b""))
+    let after = chip_by_reference::eeprom_write_copy(cart.chip, rest, memory, tallies, value);
+    match after.reply {
+        Ok(lent) => Played {
+            cart: cart::cart_with(cart, lent.dirty, after.chip),
+            len: frames::print_line(out, 0, b""),
+        },
+        Err(refusal) => Played {
+            cart: cart::cart_with(cart, cart.dirty, after.chip),
+            len: frames::print_line(out, refusal.number(), b""),
+        },
+    }
 }
 
 // 01 to 07.
@@ -76,159 +68,115 @@ fn trace_frame(
     cart: Cartridge,
     memory: &mut [u8],
     tallies: &mut [u16],
-    out: &mut [u8],
-) -> Played
-    requires { 256 ≤ length out.old }
-{
-    let frame = frames::frame_in(line_of(text));
-    match frame {
-        Frame::Bad => no_answer(cart),
-        Frame::EepromWrite(value) => bit_in(value, cart, memory, tallies, out),
-        _ => carttrace_lib::play(frame, cart, memory, tallies, out),
+    out: &mut Output,
+) -> Option<Played> {
+    match frames::frame_in(line_of(text)) {
+        Frame::Bad => None,
+        Frame::EepromWrite(value) => Some(bit_in(value, cart, memory, tallies, out)),
+        frame => Some(carttrace_lib::play(frame, cart, memory, tallies, out)),
     }
 }
 
-fn load_made(
-    file: &mut [u8],
+// 08 length (6) seed (2).
+fn load(
+    len: u32,
     seed: u8,
     cart: Cartridge,
     memory: &mut [u8],
     tallies: &mut [u16],
-    out: &mut [u8],
-) -> Played
-    requires { 256 ≤ length out.old }
-{
+    out: &mut Output,
+) -> Option<Played> {
+    let mut room = [0; 131328];
+    let file = room.get_mut(..len as usize)?;
     make_file(file, seed);
-    status(file_calls::load_save(cart, memory, tallies, file), out)
+    let reply = file_calls::load_save(cart, memory, tallies, file);
+    Some(status(cart, reply, out))
 }
 
-// 08 length (6) seed (2).
-fn load(s: &[u8], cart: Cartridge, memory: &mut [u8], tallies: &mut [u16], out: &mut [u8]) -> Played
-    requires { 256 ≤ length out.old }
-{
-    let len = (number(s, 0) % 16777216) as usize;
-    let mut file = file_room();
-    let n = at_most(len, &file);
-    if n != len {
-        return no_answer(cart);
-    }
-    load_made(&mut file[..n], byte(s, 4), cart, memory, tallies, out)
+// The length and the CRC of a file in a room.
+fn print_file(room: &[u8], len: u32, out: &mut Output) -> usize {
+    let file = &room[..(len as usize).min(room.len())];
+    let mut answer = [0; 8];
+    answer[..4].copy_from_slice(&len.to_be_bytes());
+    answer[4..].copy_from_slice(&crc::crc32(file).to_be_bytes());
+    frames::print_line(out, 0, &answer[1..])
 }
 
 // 09.
-fn export(cart: Cartridge, memory: &[u8], out: &mut [u8]) -> Played
-    requires { 256 ≤ length out.old }
-{
-    let mut file = file_room();
-    let reply = file_calls::save_data(cart, memory, &mut file);
-    if reply.refusal != 0 {
-        return status(reply, out);
+fn export(cart: Cartridge, memory: &[u8], out: &mut Output) -> Played {
+    let mut room = [0; 131328];
+    match file_calls::save_data(cart, memory, &mut room) {
+        Ok(accepted) => Played {
+            cart,
+            len: print_file(&room, accepted.value, out),
+        },
+        Err(refusal) => Played {
+            cart,
+            len: frames::print_line(out, refusal.number(), b""),
+        },
     }
-    let n = at_most(reply.value as usize, &file);
-    let len = bytes_of(reply.value);
-    let crc = bytes_of(crc::crc32(&file[..n]));
-    let answer = [len[1], len[2], len[3], crc[0], crc[1], crc[2], crc[3]];
-    played(cart, frames::print_line(out, 0, &answer))
-}
-
-// 0A chip record (36).
-fn restore(s: &[u8], cart: Cartridge, out: &mut [u8]) -> Played
-    requires { 256 ≤ length out.old }
-{
-    if s.len() == 0 {
-        return no_answer(cart);
-    }
-    status(state_calls::restore_chip_state(cart, &s[1..]), out)
-}
-
-fn opened(
-    kind: SaveType,
-    len: usize,
-    cart: Cartridge,
-    memory: &mut [u8],
-    tallies: &mut [u16],
-    out: &mut [u8],
-) -> Played
-    requires { 256 ≤ length out.old }
-{
-    if !image::image_length(len) {
-        return played(cart, frames::print_line(out, 1, b""));
-    }
-    let n = at_most(kind::memory_size(kind), memory);
-    let k = at_most_tallies(kind::tally_count(kind), tallies);
-    memory::blank(&mut memory[..n], &mut tallies[..k]);
-    played(
-        cart::fresh_cart(len, kind, Part::Usual),
-        frames::print_line(out, 0, b""),
-    )
 }
 
 // 0B kind (2) image length (8).
 fn fresh(
-    s: &[u8],
+    kind: SaveType,
+    len: u32,
     cart: Cartridge,
     memory: &mut [u8],
     tallies: &mut [u16],
-    out: &mut [u8],
-) -> Played
-    requires { 256 ≤ length out.old }
-{
-    if s.len() != 6 {
-        return no_answer(cart);
+    out: &mut Output,
+) -> Played {
+    if let Err(refusal) = image::ask_length(len as usize) {
+        return Played {
+            cart,
+            len: frames::print_line(out, refusal.number(), b""),
+        };
     }
-    let kind = kind_of(byte(s, 1));
-    match kind {
-        Kind::Of(k) => opened(k, number(s, 2) as usize, cart, memory, tallies, out),
-        Kind::Nothing => no_answer(cart),
-    }
-}
-
-// How many bytes these frames have.
-fn frame_length(number: u8) -> usize {
-    match number {
-        0x08 => 5,
-        0x09 => 1,
-        0x0A => 1 + CHIP_SIZE,
-        0x0C => 6,
-        0x0D => 2,
-        _ => 0,
-    }
-}
-
-// The frames 08 to 0D but 0B, as bytes.
-fn call(s: &[u8], cart: Cartridge, memory: &mut [u8], tallies: &mut [u16], out: &mut [u8]) -> Played
-    requires { 256 ≤ length out.old }
-{
-    let number = byte(s, 0);
-    if s.len() != frame_length(number) {
-        return no_answer(cart);
-    }
-    match number {
-        0x08 => load(s, cart, memory, tallies, out),
-        0x09 => export(cart, memory, out),
-        0x0A => restore(s, cart, out),
-        0x0C => played(cart, fit(s, out)),
-        0x0D => played(cart, size(s, out)),
-        _ => no_answer(cart),
+    let n = kind::memory_size(kind).min(memory.len());
+    let k = kind::tally_count(kind).min(tallies.len());
+    memory::blank(&mut memory[..n], &mut tallies[..k]);
+    Played {
+        cart: cart::fresh_cart(len as usize, kind, Part::Usual),
+        len: frames::print_line(out, 0, b""),
     }
 }
 
 // A frame as text and as bytes, with memory and tallies of the record's kind.
 fn frame_answer(
     text: &[u8],
-    s: &[u8],
+    frame: &[u8],
     cart: Cartridge,
     memory: &mut [u8],
     tallies: &mut [u16],
-    out: &mut [u8],
-) -> Played
-    requires { 256 ≤ length out.old }
-{
-    let number = byte(s, 0);
-    match number {
-        0x01..=0x07 => trace_frame(text, cart, memory, tallies, out),
-        0x10 => played(cart, image_answer(s, out)),
-        _ => call(s, cart, memory, tallies, out),
+    out: &mut Output,
+) -> Option<Played> {
+    match frame {
+        [0x01..=0x07, ..] => trace_frame(text, cart, memory, tallies, out),
+        [0x08, a, b, c, seed] => {
+            let len = u32::from_be_bytes([0, *a, *b, *c]);
+            load(len, *seed, cart, memory, tallies, out)
+        }
+        [0x09] => Some(export(cart, memory, out)),
+        [0x0A, record @ ..] if record.len() == CHIP_SIZE => {
+            let reply = state_calls::restore_chip_state(cart, record);
+            Some(status(cart, reply, out))
+        }
+        [0x0C, kind, a, b, c, d] => {
+            let len = u32::from_be_bytes([*a, *b, *c, *d]);
+            let len = fit(kind_of(*kind)?, len, out);
+            Some(Played { cart, len })
+        }
+        [0x0D, kind] => {
+            let len = size(kind_of(*kind)?, out);
+            Some(Played { cart, len })
+        }
+        [0x10, a, b, c, d, seed, e, f, g, h, text @ ..] => {
+            let len = u32::from_be_bytes([*a, *b, *c, *d]);
+            let place = u32::from_be_bytes([*e, *f, *g, *h]);
+            let len = image_answer(len, *seed, place, text, out)?;
+            Some(Played { cart, len })
+        }
+        _ => None,
     }
 }
 
@@ -237,18 +185,16 @@ pub fn answer(
     cart: Cartridge,
     memory: &mut [u8],
     tallies: &mut [u16],
-    out: &mut [u8],
-) -> Played
-    requires { 256 ≤ length out.old }
-{
-    let mut bytes = line_room();
-    let count = decode(&mut bytes, text);
-    let s = &bytes[..count];
-    if byte(s, 0) == 0x0B {
-        return fresh(s, cart, memory, tallies, out);
+    out: &mut Output,
+) -> Option<Played> {
+    let mut room = [0; 256];
+    let frame = decode(&mut room, text)?;
+    if let [0x0B, kind, a, b, c, d] = frame {
+        let len = u32::from_be_bytes([*a, *b, *c, *d]);
+        let kind = kind_of(*kind)?;
+        return Some(fresh(kind, len, cart, memory, tallies, out));
     }
-    let kind = cart.kind;
-    let n = at_most(kind::memory_size(kind), memory);
-    let k = at_most_tallies(kind::tally_count(kind), tallies);
-    frame_answer(text, s, cart, &mut memory[..n], &mut tallies[..k], out)
+    let n = kind::memory_size(cart.kind).min(memory.len());
+    let k = kind::tally_count(cart.kind).min(tallies.len());
+    frame_answer(text, frame, cart, &mut memory[..n], &mut tallies[..k], out)
 }

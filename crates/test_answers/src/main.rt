@@ -9,214 +9,132 @@ mod digits;
 mod images;
 mod kinds;
 mod made;
-mod rooms;
 mod score;
-mod states;
 mod stretches;
-
-ghost use Rattle.std.specs.Prelude.{◌≤◌, length};
 
 use cart::Cartridge;
 use kind::SaveType;
 use part::Part;
 use score::Score;
 use std::io;
+use stretches::{by_reading, by_tallies};
 
-// The state between two lines.
-#[derive(Clone, Copy)]
-struct Replay {
-    cart: Cartridge,
-    score: Score,
-}
+// Room for every printed answer.
+// Kept: what prints one returns its length, as `frames::print_line` and `carttrace_lib::play` do.
+type Output = [u8; 256];
 
-// The first place of a byte from a place on, or the text's end.
-fn find(text: &[u8], start: usize, byte: u8) -> usize
-    requires { start ≤ length text.now }
-    ensures { (start ≤ result) × (result ≤ length text.now) }
-{
-    let mut i = start;
-    while i < text.len() {
-        if text[i] == byte {
-            return i;
-        }
-        i += 1;
+// A line: frame, one space, answer.
+fn frame_and_answer(line: &[u8]) -> (&[u8], &[u8]) {
+    match line.iter().position(|c| *c == b' ') {
+        Some(space) => (&line[..space], &line[space + 1..]),
+        None => (line, b""),
     }
-    i
-}
-
-// The text after a place.
-fn after(text: &[u8], place: usize) -> &[u8] {
-    if place < text.len() {
-        let start = place + 1;
-        return &text[start..];
-    }
-    &text[..0]
 }
 
 // The answer in `out` without its line feed.
-fn answer_in(out: &[u8], len: usize) -> &[u8] {
-    if len == 0 {
-        return &out[..0];
-    }
-    let n = rooms::at_most(len - 1, out);
-    &out[..n]
+fn answer_in(out: &[u8], len: usize) -> Option<&[u8]> {
+    out.get(..len.checked_sub(1)?)
 }
 
-// No answer never agrees.
-fn agrees(expected: &[u8], out: &[u8], len: usize) -> bool {
-    if len == 0 {
-        return false;
-    }
-    expected == answer_in(out, len)
+// Counts a difference, and prints the front of its line.
+fn differ(rt: &impl Print, score: &mut Score, title: &str, frame: &[u8]) -> io::Result<()> {
+    print!(rt; "{title}line {}: ", score.lines)?;
+    rt.write_all(frame)?;
+    score.differs();
+    print!(rt; " expected ")
 }
 
-fn print(rt: &impl Print, text: &[u8]) -> io::Result<()> {
-    rt.write_all(text)
-}
-
-fn print_answer(rt: &impl Print, out: &[u8], len: usize) -> io::Result<()> {
-    if len == 0 {
-        return print(rt, b"no answer\n");
-    }
-    let n = rooms::at_most(len, out);
-    print(rt, &out[..n])
-}
-
-fn print_difference(
+// The answer of a call; no answer never agrees.
+fn answer_held(
     rt: &impl Print,
-    number: u64,
+    score: &mut Score,
     frame: &[u8],
     expected: &[u8],
-    out: &[u8],
-    len: usize,
+    told: Option<&[u8]>,
 ) -> io::Result<()> {
-    print(rt, b"line ")?;
-    rt.print(number)?;
-    print(rt, b": ")?;
-    print(rt, frame)?;
-    print(rt, b" expected ")?;
-    print(rt, expected)?;
-    print(rt, b" got ")?;
-    print_answer(rt, out, len)
-}
-
-// Prints and counts a difference.
-fn held(
-    rt: &impl Print,
-    score: Score,
-    title: &[u8],
-    frame: &[u8],
-    expected: &[u8],
-    out: &[u8],
-    len: usize,
-) -> io::Result<Score> {
-    if agrees(expected, out, len) {
-        return Ok(score);
+    if told.is_some_and(|answer| answer == expected) {
+        return Ok(());
     }
-    print(rt, title)?;
-    print_difference(rt, score.lines, frame, expected, out, len)?;
-    Ok(score::differs(score))
+    differ(rt, score, "", frame)?;
+    rt.write_all(expected)?;
+    print!(rt; " got ")?;
+    match told {
+        Some(answer) => rt.write_all(answer)?,
+        None => print!(rt; "no answer")?,
+    }
+    println!(rt)
 }
 
 // What the tallies answer after the call of a frame.
 fn tallies_held(
     rt: &impl Print,
-    score: Score,
+    score: &mut Score,
     frame: &[u8],
     cart: Cartridge,
     memory: &[u8],
     tallies: &[u16],
-) -> io::Result<Score> {
-    let mut read = rooms::line_room();
-    let mut told = rooms::line_room();
-    let n = stretches::by_reading(cart, memory, &mut read);
-    let len = stretches::by_tallies(cart, tallies, &mut told);
-    held(
-        rt,
-        score,
-        b"tallies, ",
-        frame,
-        answer_in(&read, n),
-        &told,
-        len,
-    )
+) -> io::Result<()> {
+    let read = by_reading(cart, memory);
+    let told = by_tallies(cart, tallies);
+    if told == Ok(read) {
+        return Ok(());
+    }
+    differ(rt, score, "tallies, ", frame)?;
+    match told {
+        Ok(told) => println!(rt; "{read} got {told}"),
+        Err(refusal) => println!(rt; "{read} got {:02X}", refusal.number()),
+    }
 }
 
-// The state after the call of a frame, past the 18 bytes.
-fn state_held(rt: &impl Print, score: Score, frame: &[u8], cart: Cartridge) -> io::Result<Score> {
-    let mut expected = rooms::line_room();
-    let mut told = rooms::line_room();
-    let n = states::by_record(cart, &mut expected);
-    let len = states::by_state(cart, &mut told);
-    held(
-        rt,
-        score,
-        b"state, ",
-        frame,
-        answer_in(&expected, n),
-        &told,
-        len,
-    )
+// The state after the call of a frame, past the 18 bytes, which are all that the list has: the flag and the layout's
+// number.
+fn state_held(rt: &impl Print, score: &mut Score, frame: &[u8], cart: Cartridge) -> io::Result<()> {
+    let rest = u16::from_be_bytes([u8::from(cart.dirty), 2]);
+    let told = state_calls::chip_state(cart).map(|state| u16::from_be_bytes([
+        state[18], state[19],
+    ]));
+    if told == Ok(rest) {
+        return Ok(());
+    }
+    differ(rt, score, "state, ", frame)?;
+    match told {
+        Ok(told) => println!(rt; "00{rest:04X} got 00{told:04X}"),
+        Err(refusal) => println!(rt; "00{rest:04X} got {:02X}0000", refusal.number()),
+    }
 }
 
-// What the list does not have.
-fn more_held(
+// Makes a line's call. Returns the record after it.
+fn play_line(
     rt: &impl Print,
-    score: Score,
-    frame: &[u8],
+    score: &mut Score,
+    line: &[u8],
     cart: Cartridge,
-    memory: &[u8],
-    tallies: &[u16],
-) -> io::Result<Score> {
-    let score = tallies_held(rt, score, frame, cart, memory, tallies)?;
-    state_held(rt, score, frame, cart)
-}
-
-// A line: frame, one space, answer.
-fn line(
-    rt: &impl Print,
-    text: &[u8],
-    replay: Replay,
     memory: &mut [u8],
     tallies: &mut [u16],
-) -> io::Result<Replay> {
-    let cart = replay.cart;
-    let score = replay.score;
-    let space = find(text, 0, 0x20);
-    let frame = &text[..space];
-    let mut out = rooms::line_room();
-    let p = calls::answer(frame, cart, memory, tallies, &mut out);
-    let next = p.cart;
-    let score = score::counted(score, frame, p.len != 0);
-    let score = held(rt, score, b"", frame, after(text, space), &out, p.len)?;
-    let score = more_held(rt, score, frame, next, memory, tallies)?;
-    Ok(Replay {
-        cart: next,
-        score: score,
-    })
+) -> io::Result<Cartridge> {
+    let (frame, expected) = frame_and_answer(line);
+    let mut out = [0; 256];
+    let played = calls::answer(frame, cart, memory, tallies, &mut out);
+    let (next, told) = match played {
+        Some(played) => (played.cart, answer_in(&out, played.len)),
+        None => (cart, None),
+    };
+    score.count(frame, told.is_some());
+    answer_held(rt, score, frame, expected, told)?;
+    tallies_held(rt, score, frame, next, memory, tallies)?;
+    state_held(rt, score, frame, next)?;
+    Ok(next)
 }
 
-fn begun() -> Replay {
-    Replay {
-        cart: cart::fresh_cart(0, SaveType::None, Part::Usual),
-        score: score::no_lines(),
+fn play_list(rt: &impl Print, score: &mut Score, text: &[u8]) -> io::Result<()> {
+    let mut memory = [0; 131072];
+    let mut tallies = [0; 32];
+    let mut cart = cart::fresh_cart(0, SaveType::None, Part::Usual);
+    for line in text.split_inclusive(|c| *c == b'\n') {
+        let line = line.strip_suffix(b"\n").unwrap_or(line);
+        cart = play_line(rt, score, line, cart, &mut memory, &mut tallies)?;
     }
-}
-
-fn lines(
-    rt: &impl Print,
-    text: &[u8],
-    memory: &mut [u8],
-    tallies: &mut [u16],
-) -> io::Result<Score> {
-    let mut replay = begun();
-    let mut i = 0;
-    while i < text.len() {
-        let end = find(text, i, 0x0A);
-        replay = line(rt, &text[i..end], replay, memory, tallies)?;
-        i = end + 1;
-    }
-    Ok(replay.score)
+    Ok(())
 }
 
 fn main(rt: HostRuntime) -> io::Result<()> {
@@ -225,13 +143,12 @@ fn main(rt: HostRuntime) -> io::Result<()> {
     let Some(mut file) = named_files::opened(&rt, &path[..n])? else {
         return Ok(());
     };
-    let mut text = rooms::list_room();
+    let mut text = [0; 262144];
     let len = named_files::read_full(&mut file, &mut text)?;
     if len == text.len() {
-        return print(&rt, b"the list is too long\n");
+        return println!(rt; "the list is too long");
     }
-    let mut memory = rooms::memory_room();
-    let mut tallies = rooms::tallies_room();
-    let score = lines(&rt, &text[..len], &mut memory, &mut tallies)?;
-    score::print_score(&rt, score)
+    let mut score = Score::new();
+    play_list(&rt, &mut score, &text[..len])?;
+    score.print(&rt)
 }

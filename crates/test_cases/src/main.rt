@@ -3,34 +3,17 @@
 
 #![tactic(auto)]
 
-ghost use Rattle.std.specs.Prelude.{◌≡◌, ◌+◌, ◌≤◌, ◌<◌, length};
+ghost use Rattle.std.specs.Prelude.{◌≤◌, length};
 
 use carttrace_lib::{Session, Told};
 use std::io;
 use std::rt::Runtime;
 
-fn memory() -> [u8; 131072]
-    ensures { 131072 ≡ length result }
+fn show(rt: &impl Print, told: Told, out: &[u8]) -> io::Result<Session>
+    requires { told.len ≤ length out.now }
 {
-    [0; 131072]
-}
-
-fn show(rt: &impl Print, t: Told, out: &[u8]) -> io::Result<Session>
-    requires { t.len ≤ length out.now }
-{
-    let len = t.len;
-    rt.write_all(&out[..len])?;
-    Ok(t.session)
-}
-
-fn piece_end(i: usize, n: usize) -> usize
-    requires { i < n }
-    ensures { (i < result) × (result ≤ n) × (result ≤ i + 7) }
-{
-    if n - i < 7 {
-        return n;
-    }
-    i + 7
+    rt.write_all(&out[..told.len])?;
+    Ok(told.session)
 }
 
 // The text in pieces.
@@ -46,12 +29,9 @@ fn pieces(
     requires in_bounds_3 { 4096 ≤ length out.old }
 {
     let mut session = carttrace_lib::opened();
-    let mut i = 0;
-    while i < text.len() {
-        let end = piece_end(i, text.len());
-        let t = carttrace_lib::feed(session, &text[i..end], memory, tallies, out);
-        session = show(rt, t, out)?;
-        i = end;
+    for piece in text.chunks(7) {
+        let told = carttrace_lib::feed(session, piece, memory, tallies, out);
+        session = show(rt, told, out)?;
     }
     Ok(session)
 }
@@ -68,8 +48,8 @@ fn run(
     requires in_bounds_3 { 4096 ≤ length out.old }
 {
     let session = pieces(rt, text, memory, tallies, out)?;
-    let t = carttrace_lib::finish(session, memory, tallies, out);
-    show(rt, t, out)?;
+    let told = carttrace_lib::finish(session, memory, tallies, out);
+    show(rt, told, out)?;
     Ok(())
 }
 
@@ -83,8 +63,8 @@ fn case(rt: &impl Runtime, path: &[u8]) -> io::Result<()> {
     };
     let mut text = named_files::buffer();
     let len = named_files::read_full(&mut file, &mut text)?;
-    let mut memory = memory();
-    let mut tallies = [0u16; 32];
+    let mut memory = [0; 131072];
+    let mut tallies = [0; 32];
     let mut out = named_files::buffer();
     run(rt, &text[..len], &mut memory, &mut tallies, &mut out)
 }
@@ -92,10 +72,10 @@ fn case(rt: &impl Runtime, path: &[u8]) -> io::Result<()> {
 fn main(rt: HostRuntime) -> io::Result<()> {
     let mut path = named_files::buffer();
     for k in 1..usize::MAX {
-        match named_files::argument(&rt, k, &mut path) {
-            Some(n) => case(&rt, &path[..n])?,
-            None => break,
-        }
+        let Some(n) = named_files::argument(&rt, k, &mut path) else {
+            break;
+        };
+        case(&rt, &path[..n])?;
     }
     Ok(())
 }

@@ -5,6 +5,7 @@
 use std::io;
 use std::rt::Runtime;
 
+// Kept: cuttrace has the same lines; a program cannot be called, and cuttrace_lib prints nothing.
 fn run(rt: &impl Print, text: &[u8]) -> io::Result<()> {
     let mut list = cuttrace_lib::large_room();
     let mut memory = cuttrace_lib::room();
@@ -35,13 +36,14 @@ fn case(rt: &impl Runtime, path: &[u8]) -> io::Result<()> {
     run(rt, &text[..len])
 }
 
+// Kept: `case` and `main` are those of test_cases but for the room and `run`; one for both would take these as closures.
 fn main(rt: HostRuntime) -> io::Result<()> {
     let mut path = named_files::buffer();
     for k in 1..usize::MAX {
-        match named_files::argument(&rt, k, &mut path) {
-            Some(n) => case(&rt, &path[..n])?,
-            None => break,
-        }
+        let Some(n) = named_files::argument(&rt, k, &mut path) else {
+            break;
+        };
+        case(&rt, &path[..n])?;
     }
     Ok(())
 }

@@ -1,64 +1,36 @@
 // Vectors of the CRC. Byte i of the bytes is (7 × i + i / 256) mod 256.
-ghost use Rattle.std.specs.Prelude.{◌≡◌, ◌+◌, ◌≤◌, length};
+ghost use Rattle.std.specs.Prelude.{◌+◌, ◌≤◌, length};
 
-use crate::{print, print_byte};
 use std::io;
 
-fn room() -> [u8; 131072]
-    ensures { 131072 ≡ length result }
-{
-    [0; 131072]
-}
-
-fn make_bytes(s: &mut [u8])
-    ensures { length s.new ≡ length s.old }
-{
-    let mut i = 0;
-    while i < s.len() {
-        s[i] = ((i % 256 * 7 + i / 256 % 256) % 256) as u8;
-        i += 1;
+fn make_bytes(s: &mut [u8]) {
+    for (i, byte) in s.iter_mut().enumerate() {
+        *byte = ((i % 256 * 7 + i / 256) % 256) as u8;
     }
 }
 
-fn print_crc(rt: &impl Print, c: u32) -> io::Result<()> {
-    print_byte(rt, ((c >> 24) % 256) as u8)?;
-    print_byte(rt, ((c >> 16) % 256) as u8)?;
-    print_byte(rt, ((c >> 8) % 256) as u8)?;
-    print_byte(rt, (c % 256) as u8)
-}
-
-fn crc(rt: &impl Print, text: &[u8]) -> io::Result<()> {
-    print(rt, b"crc ")?;
-    print(rt, text)?;
-    print(rt, b": ")?;
-    print_crc(rt, crc::crc32(text))?;
-    print(rt, b"\n")
+fn crc(rt: &impl Print, text: &str) -> io::Result<()> {
+    let crc = crc::crc32(text.as_bytes());
+    println!(rt; "crc {text}: {crc:08X}")
 }
 
 // So many bytes, from each of the first eight places on.
 fn crcs_of(rt: &impl Print, s: &[u8], n: usize) -> io::Result<()>
     requires { n + 7 ≤ length s.now }
 {
-    print(rt, b"crc of ")?;
-    rt.print(n as u64)?;
-    print(rt, b" bytes:")?;
-    let mut place: usize = 0;
-    while place < 8 {
-        let end = place + n;
-        print(rt, b" ")?;
-        print_crc(rt, crc::crc32(&s[place..end]))?;
-        place += 1;
+    print!(rt; "crc of {n} bytes:")?;
+    for place in 0..8 {
+        let crc = crc::crc32(&s[place..place + n]);
+        print!(rt; " {crc:08X}")?;
     }
-    print(rt, b"\n")
+    println!(rt)
 }
 
 fn short_crcs(rt: &impl Print, s: &[u8]) -> io::Result<()>
     requires { 207 ≤ length s.now }
 {
-    let mut n: usize = 0;
-    while n < 201 {
+    for n in 0..201 {
         crcs_of(rt, s, n)?;
-        n += 1;
     }
     Ok(())
 }
@@ -67,9 +39,10 @@ fn short_crcs(rt: &impl Print, s: &[u8]) -> io::Result<()>
 fn crcs_around(rt: &impl Print, s: &[u8], n: usize) -> io::Result<()>
     requires { (1 ≤ n) × (n + 8 ≤ length s.now) }
 {
-    crcs_of(rt, s, n - 1)?;
-    crcs_of(rt, s, n)?;
-    crcs_of(rt, s, n + 1)
+    for near in n - 1..n + 2 {
+        crcs_of(rt, s, near)?;
+    }
+    Ok(())
 }
 
 // Parts of so many bytes; the last has what is left.
@@ -77,54 +50,33 @@ fn fed_in_parts(s: &[u8], n: usize) -> u32
     requires { 1 ≤ n }
 {
     let mut c = crc::crc_start();
-    let mut i: usize = 0;
-    while n <= s.len() - i {
-        let end = i + n;
-        c = crc::crc_feed(c, &s[i..end]);
-        i = end;
+    for part in s.chunks(n) {
+        c = crc::crc_feed(c, part);
     }
-    crc::crc_feed(c, &s[i..])
-}
-
-fn crc_in_parts(rt: &impl Print, s: &[u8], n: usize) -> io::Result<()>
-    requires { 1 ≤ n }
-{
-    print(rt, b"crc in parts of ")?;
-    rt.print(n as u64)?;
-    print(rt, b": ")?;
-    print_crc(rt, crc::crc_finish(fed_in_parts(s, n)))?;
-    print(rt, b"\n")
+    crc::crc_finish(c)
 }
 
 fn long_crcs(rt: &impl Print, s: &[u8]) -> io::Result<()>
     requires { 131072 ≤ length s.now }
 {
-    crcs_around(rt, s, 4096)?;
-    crcs_around(rt, s, 8192)?;
-    crcs_around(rt, s, 28672)?;
-    crcs_around(rt, s, 32768)?;
-    crcs_around(rt, s, 36864)?;
-    crcs_around(rt, s, 65536)?;
-    crcs_around(rt, s, 98304)?;
-    crcs_around(rt, s, 102400)
+    for n in [4096, 8192, 28672, 32768, 36864, 65536, 98304, 102400] {
+        crcs_around(rt, s, n)?;
+    }
+    Ok(())
 }
 
 fn crcs_in_parts(rt: &impl Print, s: &[u8]) -> io::Result<()> {
-    crc_in_parts(rt, s, 1)?;
-    crc_in_parts(rt, s, 7)?;
-    crc_in_parts(rt, s, 512)?;
-    crc_in_parts(rt, s, 32767)?;
-    crc_in_parts(rt, s, 32768)?;
-    crc_in_parts(rt, s, 32769)?;
-    crc_in_parts(rt, s, 100000)?;
-    crc_in_parts(rt, s, 131072)?;
-    crc_in_parts(rt, s, 131073)
+    for n in [1, 7, 512, 32767, 32768, 32769, 100000, 131072, 131073] {
+        let crc = fed_in_parts(s, n);
+        println!(rt; "crc in parts of {n}: {crc:08X}")?;
+    }
+    Ok(())
 }
 
 pub fn crcs(rt: &impl Print) -> io::Result<()> {
-    crc(rt, b"")?;
-    crc(rt, b"123456789")?;
-    let mut s = room();
+    crc(rt, "")?;
+    crc(rt, "123456789")?;
+    let mut s = [0; 131072];
     make_bytes(&mut s);
     short_crcs(rt, &s)?;
     long_crcs(rt, &s)?;

@@ -1,16 +1,15 @@
 // Vectors of images that come in pieces: the kind, and after how many bytes the matcher had it.
 ghost use Rattle.std.specs.Prelude.{◌≡◌, ◌+◌, ◌*◌, ◌≤◌, ◌<◌, ◌^◌, length};
 
-use crate::{print, print_kind, put};
+use crate::{MARKERS, put};
 use matcher::Fed;
 use std::io;
 
 fn nothing_fed() -> Fed
     ensures { result.count ≡ 0 }
 {
-    let m = matcher::start();
     Fed {
-        matcher: m,
+        matcher: matcher::start(),
         count: 0,
     }
 }
@@ -21,10 +20,9 @@ fn add_piece(before: Fed, piece: &[u8]) -> Fed
     ensures { result.count ≤ before.count + length piece.now }
 {
     let more = matcher::feed(before.matcher, piece);
-    let m = more.matcher;
     Fed {
-        matcher: m,
         count: before.count + more.count,
+        ..more
     }
 }
 
@@ -32,18 +30,15 @@ fn add_piece(before: Fed, piece: &[u8]) -> Fed
 fn in_two(image: &[u8], cut: usize) -> Fed
     requires { cut ≤ length image.now }
 {
-    let first = add_piece(nothing_fed(), &image[0..cut]);
+    let first = add_piece(nothing_fed(), &image[..cut]);
     let second = add_piece(first, b"");
     add_piece(second, &image[cut..])
 }
 
 fn byte_by_byte(image: &[u8]) -> Fed {
     let mut now = nothing_fed();
-    let mut i = 0;
-    while i < image.len() {
-        let end = i + 1;
-        now = add_piece(now, &image[i..end]);
-        i = end;
+    for byte in image {
+        now = add_piece(now, &[*byte]);
     }
     now
 }
@@ -51,10 +46,8 @@ fn byte_by_byte(image: &[u8]) -> Fed {
 // A header of zeros has no game code and no title.
 fn print_fed(rt: &impl Print, fed: Fed, length: usize) -> io::Result<()> {
     let header = [0u8; 192];
-    let m = fed.matcher;
-    print_kind(rt, matcher::finish(m, &header, length))?;
-    print(rt, b" after ")?;
-    rt.print(fed.count as u64)
+    let kind = matcher::finish(fed.matcher, &header, length);
+    print!(rt; "{kind:?} after {}", fed.count)
 }
 
 // A marker cut at a place, and the answer for an image that is cut there.
@@ -67,65 +60,43 @@ fn print_cut(
 ) -> io::Result<()>
     requires { (place ≤ length marker.now) × (cut ≤ length image.now) }
 {
-    print(rt, b", ")?;
-    print(rt, &marker[0..place])?;
-    print(rt, b"|")?;
-    print(rt, &marker[place..])?;
-    print(rt, b" ")?;
+    print!(rt; ", ")?;
+    rt.write_all(&marker[..place])?;
+    print!(rt; "|")?;
+    rt.write_all(&marker[place..])?;
+    print!(rt; " ")?;
     print_fed(rt, in_two(image, cut), image.len())
-}
-
-fn short_cuts(rt: &impl Print, marker: &[u8]) -> io::Result<()> {
-    let mut place = 1;
-    while place < marker.len() {
-        print_cut(rt, marker, place, marker, place)?;
-        place += 1;
-    }
-    Ok(())
 }
 
 // The marker alone.
 fn short_pieces(rt: &impl Print, marker: &[u8]) -> io::Result<()> {
-    print(rt, marker)?;
-    print(rt, b" in pieces of one byte: ")?;
+    rt.write_all(marker)?;
+    print!(rt; " in pieces of one byte: ")?;
     print_fed(rt, byte_by_byte(marker), marker.len())?;
-    short_cuts(rt, marker)?;
-    print(rt, b"\n")
+    for place in 1..marker.len() {
+        print_cut(rt, marker, place, marker, place)?;
+    }
+    println!(rt)
 }
 
 // The marker is cut behind byte 65: the bytes before the cut are passed over at once.
 fn cut_in_zeros(rt: &impl Print, marker: &[u8], place: usize) -> io::Result<()>
-    requires { (place ≤ length marker.now) × (length marker.now ≤ 63) }
+    requires { (place ≤ length marker.now) × (place ≤ 65) }
 {
     let mut image = [0u8; 128];
     put(&mut image, 65 - place, marker);
     print_cut(rt, marker, place, &image, 65)
 }
 
-fn long_cuts(rt: &impl Print, marker: &[u8]) -> io::Result<()>
-    requires { length marker.now ≤ 63 }
-{
-    let mut place = 1;
-    while place < marker.len() {
-        cut_in_zeros(rt, marker, place)?;
-        place += 1;
-    }
-    Ok(())
-}
-
 fn long_pieces(rt: &impl Print, marker: &[u8]) -> io::Result<()>
-    requires { length marker.now ≤ 63 }
+    requires { length marker.now ≤ 65 }
 {
-    print(rt, marker)?;
-    print(rt, b" in pieces of 65 and 63 bytes")?;
-    long_cuts(rt, marker)?;
-    print(rt, b"\n")
-}
-
-fn zeros() -> [u8; 4096]
-    ensures { 4096 ≡ length result }
-{
-    [0; 4096]
+    rt.write_all(marker)?;
+    print!(rt; " in pieces of 65 and 63 bytes")?;
+    for place in 1..marker.len() {
+        cut_in_zeros(rt, marker, place)?;
+    }
+    println!(rt)
 }
 
 // So many pieces of 4,096 zeros.
@@ -133,12 +104,10 @@ fn add_zeros(before: Fed, pieces: usize) -> Fed
     requires { before.count + 4096 * pieces < 2 ^ 64 }
     ensures { result.count ≤ before.count + 4096 * pieces }
 {
-    let piece = zeros();
+    let piece = [0; 4096];
     let mut now = before;
-    let mut n = 0;
-    while n < pieces {
+    for _ in 0..pieces {
         now = add_piece(now, &piece);
-        n += 1;
     }
     now
 }
@@ -147,28 +116,23 @@ fn add_zeros(before: Fed, pieces: usize) -> Fed
 fn many_pieces(rt: &impl Print, first: &[u8]) -> io::Result<()>
     requires { length first.now ≤ 1 }
 {
-    let mut last = zeros();
+    let mut last = [0; 4096];
     put(&mut last, 4088, b"EEPROM_V");
     let zeros = add_zeros(add_piece(nothing_fed(), first), 4095);
     let all = add_piece(zeros, &last);
     let length = first.len() + 16777216;
-    rt.print(length as u64)?;
-    print(rt, b" bytes in pieces: ")?;
+    print!(rt; "{length} bytes in pieces: ")?;
     print_fed(rt, all, length)?;
-    print(rt, b"\n")
+    println!(rt)
 }
 
 pub fn pieces(rt: &impl Print) -> io::Result<()> {
-    short_pieces(rt, b"SRAM_V")?;
-    short_pieces(rt, b"FLASH_V")?;
-    short_pieces(rt, b"FLASH512_V")?;
-    short_pieces(rt, b"FLASH1M_V")?;
-    short_pieces(rt, b"EEPROM_V")?;
-    long_pieces(rt, b"SRAM_V")?;
-    long_pieces(rt, b"FLASH_V")?;
-    long_pieces(rt, b"FLASH512_V")?;
-    long_pieces(rt, b"FLASH1M_V")?;
-    long_pieces(rt, b"EEPROM_V")?;
+    for marker in MARKERS {
+        short_pieces(rt, marker)?;
+    }
+    for marker in MARKERS {
+        long_pieces(rt, marker)?;
+    }
     many_pieces(rt, b"")?;
     many_pieces(rt, b"\0")
 }
