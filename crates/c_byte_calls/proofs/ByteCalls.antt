@@ -18,7 +18,7 @@ use Rattle.c_record.specs.RecordBytes.{cart_of, Valid, state_of}
 use Rattle.c_record.specs.Fields.{with_flash, with_id}
 use Rattle.c_record.specs.AtExit.{value_at, changed_at}
 use Rattle.c_record.specs.Calls.{reads, writes}
-use Rattle.c_record.proofs.FieldBytes.{id-byte, id-stays, put-flash}
+use Rattle.c_record.proofs.FieldBytes.{id-byte, put-flash}
 use Rattle.c_record.proofs.Calls.{memory-no, memory-yes, tallies-no, tallies-yes, refused, done}
 
 -- a step that stores does not change ID mode

@@ -4,6 +4,7 @@ ghost use Rattle.out_params.specs.Places.{answered_at, id_word_answer};
 
 use kind::SaveType;
 
+#[tactic(auto, using(lists::proofs::Bools::tests), unfolding(kind::specs::Kind::kind_of, out_params::specs::Places::id_word_answer))]
 pub fn id_word(part: u32, kind: u32, word: &mut u32) -> u32
     ensures { (result, word.new) ≡ answered_at (id_word_answer part kind) word.old }
 {

@@ -29,7 +29,7 @@ pub fn digit(c: u8) -> Option<u8>
 }
 
 // The value of a digit, and 16 for every other character.
-// Kept: a public promise, by which test_answers reads; the definition of a line's number is stated by it too.
+// Kept: a public promise; the definition of a line's number is stated by it too.
 pub fn value_of(c: u8) -> u8
     ensures { result ≡ value_of c }
 {

@@ -1,5 +1,5 @@
 -- A call's answer, where its questions are answered. Assumes nothing.
-use Rattle.std.proofs.Common.{◌≡◌, ℕ, suc, ◌+◌, ◌*◌, ◌<◌, ◌≤◌, Bool, true, false, List, [], ◌∷◌, length, get_or, sym, refl, ap, Result, Ok, Err, ◌∙◌, add-one, arith, le-leb}
+use Rattle.std.proofs.Common.{◌≡◌, ℕ, suc, ◌+◌, ◌*◌, List, get_or, sym, ap, Result, Ok, Err, ◌∙◌, add-one, arith}
 use native.Mathlib.Numerals.{add-two, add-three}
 use borrow.Author.Tests.{ne_eqb}
 use Rattle.std.specs.Result.{IsErrAnd}

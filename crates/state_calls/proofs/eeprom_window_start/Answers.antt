@@ -1,9 +1,9 @@
 -- `state_calls::eeprom_window_start` meets its contract. Assumes nothing.
-use Rattle.std.proofs.Common.{arith, ap, [], ◌∷◌, ◌∙◌}
+use Rattle.std.proofs.Common.{[], ◌∷◌}
 use Rattle.kind.specs.Kind.{window_start}
 use Rattle.image.proofs.Answers.{answered-no, answered-yes}
 use Rattle.cart.specs.Record.{record_question}
-use Rattle.cart.specs.Calls.{eeprom_window_start, tally_questions}
+use Rattle.cart.specs.Calls.{eeprom_window_start}
 use Rattle.state_calls.proofs.eeprom_window_start.Goals as goal
 
 pub returns-in_err-ask_record : goal.returns-in_err-ask_record

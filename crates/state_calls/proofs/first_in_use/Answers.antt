@@ -1,10 +1,9 @@
 -- `state_calls::first_in_use` meets its contract. Assumes nothing.
-use Rattle.std.proofs.Common.{arith, ap, [], ◌∷◌, ◌∙◌}
+use Rattle.std.proofs.Common.{arith}
 use Rattle.counts.specs.Tallies.{first_in_use, in_use_number}
 use Rattle.kind.proofs.Sizes.{tallies-few}
 use Rattle.state_calls.proofs.Passed.{tallies-right}
 use Rattle.image.proofs.Answers.{answered-no, answered-yes}
-use Rattle.cart.specs.Record.{record_question}
 use Rattle.cart.specs.Calls.{in_use, tally_questions}
 use Rattle.state_calls.proofs.first_in_use.Goals as goal
 

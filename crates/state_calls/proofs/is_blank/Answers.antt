@@ -1,11 +1,10 @@
 -- `state_calls::is_blank` meets its contract. Assumes nothing.
-use Rattle.std.proofs.Common.{arith, ap, [], ◌∷◌, ◌∙◌}
+use Rattle.std.proofs.Common.{arith, ap, ◌∙◌}
 use Rattle.lists.specs.Lists.{bit}
 use Rattle.counts.specs.Tallies.{blank}
 use Rattle.kind.proofs.Sizes.{tallies-few}
 use Rattle.state_calls.proofs.Passed.{tallies-right}
 use Rattle.image.proofs.Answers.{answered-no, answered-yes}
-use Rattle.cart.specs.Record.{record_question}
 use Rattle.cart.specs.Calls.{is_blank, tally_questions}
 use Rattle.state_calls.proofs.is_blank.Goals as goal
 

@@ -1,10 +1,10 @@
 -- `state_calls::uses_eeprom` meets its contract. Assumes nothing.
-use Rattle.std.proofs.Common.{arith, ap, [], ◌∷◌, ◌∙◌}
+use Rattle.std.proofs.Common.{ap, [], ◌∷◌, ◌∙◌}
 use Rattle.lists.specs.Lists.{bit}
 use Rattle.kind.specs.Kind.{uses_eeprom}
 use Rattle.image.proofs.Answers.{answered-no, answered-yes}
 use Rattle.cart.specs.Record.{record_question}
-use Rattle.cart.specs.Calls.{uses_eeprom_of, tally_questions}
+use Rattle.cart.specs.Calls.{uses_eeprom_of}
 use Rattle.state_calls.proofs.uses_eeprom.Goals as goal
 
 pub returns-in_err-ask_record : goal.returns-in_err-ask_record

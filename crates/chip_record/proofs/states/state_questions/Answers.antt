@@ -1,6 +1,5 @@
 -- `chip_record::states::state_questions` meets its contract. Assumes nothing.
 use mathlib.Core.Path.{sym, ap, ◌∙◌}
-use Rattle.std.proofs.Common.{◌≡◌}
 use Rattle.refusal.proofs.Passed.{passed, not-0}
 use Rattle.refusal.specs.Refusals.{number_of}
 use native.Mathlib.Omega.{arith}
