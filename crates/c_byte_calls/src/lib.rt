@@ -13,6 +13,7 @@ use byte_step::ByteStep;
 use c_record::{RecordBytes, layout};
 use memory::NO_FILE;
 use part::Part;
+use refusal::Refusal;
 
 // Two functions of one text: with the usual part the ID words are one table by the kind, and with both tables the
 // compiler would leave the function out of `save_read`.
@@ -29,7 +30,7 @@ fn read_with<const USUAL: bool>(
 {
     let kind = c_record::kind_in(cart);
     if memory.len() != kind::memory_size(kind) {
-        return 3;
+        return Refusal::MemoryLength as u32;
     }
     let part = if USUAL {
         Part::Usual
@@ -46,7 +47,7 @@ fn read_any(cart: &RecordBytes, memory: &[u8], address: u32, value: &mut u32) ->
         ≡ reads address cart.now memory.now value.old }
 {
     if !c_record::is_record(cart) {
-        return 2;
+        return Refusal::Record as u32;
     }
     read_with::<false>(cart, &memory[..], address, value)
 }
@@ -82,11 +83,11 @@ fn write_valid(
 {
     let kind = c_record::kind_in(cart);
     if memory.len() != kind::memory_size(kind) {
-        return 3;
+        return Refusal::MemoryLength as u32;
     }
     // a tally for each 4,096 bytes: no second table by the kind
     if tallies.len() != memory.len() / 4096 {
-        return 16;
+        return Refusal::TallyCount as u32;
     }
     let flash = c_record::flash_in(cart);
     let ByteStep {
@@ -118,7 +119,7 @@ fn write_any(
         tallies.old changed.old }
 {
     if !c_record::is_record(cart) {
-        return 2;
+        return Refusal::Record as u32;
     }
     write_valid(
         cart,

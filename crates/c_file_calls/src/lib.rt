@@ -12,6 +12,7 @@ ghost use Rattle.c_record.specs.Calls.{loads, exports, imports};
 
 use c_record::{RecordBytes, layout};
 use memory::Store;
+use refusal::Refusal;
 
 // An accepted load: of the record only `large` may change. The memory comes last, so that nothing stays live across it.
 // Answers how many bytes of the memory changed.
@@ -40,14 +41,14 @@ pub fn load_save(
         tallies.old changed.old }
 {
     if !quick_tests::is_record(cart) {
-        return 2;
+        return Refusal::Record as u32;
     }
     let kind = c_record::kind_in(cart);
     if memory.len() != kind::memory_size(kind) {
-        return 3;
+        return Refusal::MemoryLength as u32;
     }
     if tallies.len() != kind::tally_count(kind) {
-        return 16;
+        return Refusal::TallyCount as u32;
     }
     // a slice cut anew is passed in registers
     *changed = load_valid(cart, memory, tallies, &file[..]);
@@ -59,15 +60,15 @@ pub fn save_data(cart: &RecordBytes, memory: &[u8], destination: &mut [u8], leng
         ≡ exports destination.old cart.now memory.now length.old }
 {
     if !c_record::is_record(cart) {
-        return 2;
+        return Refusal::Record as u32;
     }
     let kind = c_record::kind_in(cart);
     if memory.len() != kind::memory_size(kind) {
-        return 3;
+        return Refusal::MemoryLength as u32;
     }
     let n = file_calls::file_length(kind, cart[layout::LARGE] == 1);
     if destination.len() < n {
-        return 13;
+        return Refusal::DestinationLength as u32;
     }
     memory::copy_file(destination, &memory[..n]);
     *length = n as u32;
@@ -95,17 +96,17 @@ pub fn import_save(
         kept.old changed.old }
 {
     if !c_record::is_record(cart) {
-        return 2;
+        return Refusal::Record as u32;
     }
     let kind = c_record::kind_in(cart);
     if memory.len() != kind::memory_size(kind) {
-        return 3;
+        return Refusal::MemoryLength as u32;
     }
     if tallies.len() != kind::tally_count(kind) {
-        return 16; // asked before 14
+        return Refusal::TallyCount as u32; // asked before 14
     }
     if !file_sizes::takes(kind, file.len()) {
-        return 14;
+        return Refusal::FileLength as u32;
     }
     let part = file_sizes::kept_part(kind, file);
     *changed = load_valid(cart, memory, tallies, part);

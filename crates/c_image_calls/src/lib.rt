@@ -14,6 +14,7 @@ ghost use Rattle.crc.specs.Crc.{rom_crc};
 
 pub use parts::id_word;
 pub use pieces::{crc_feed, crc_finish, crc_start};
+use refusal::Refusal;
 pub use sizes::{memory_size, save_fit, save_size};
 
 pub fn read(image: &[u8], address: u32, value: &mut u32) -> u32
@@ -61,7 +62,7 @@ pub fn detect_save_type(image: &[u8], kind: &mut u32) -> u32
     ensures { (result, kind.new) ≡ answered_at (kind_answer image.now) kind.old }
 {
     if !image::image_length(image.len()) {
-        return 1;
+        return Refusal::ImageLength as u32;
     }
     *kind = kind::kind_number(matcher::detect_save_type(image)) as u32;
     0

@@ -3,6 +3,7 @@ ghost use Rattle.out_params.specs.Places.{answered_at, fit_answer, memory_size_a
 ghost use Rattle.std.specs.Prelude.{◌≡◌};
 
 use kind::SaveType;
+use refusal::Refusal;
 
 #[tactic(auto, using(crate::proofs::Answers::fit_of_le), unfolding(out_params::specs::Places::fit_answer))]
 pub fn save_fit(image: &[u8], length: usize, kept: &mut u32) -> u32
@@ -26,7 +27,7 @@ pub fn memory_size(kind: u32, size: &mut u32) -> u32
     ensures { (result, size.new) ≡ answered_at (memory_size_answer kind) size.old }
 {
     let Ok(kind) = SaveType::try_from(kind) else {
-        return 2;
+        return Refusal::Record as u32;
     };
     *size = kind::memory_size(kind) as u32;
     0

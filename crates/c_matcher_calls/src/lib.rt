@@ -10,6 +10,7 @@ ghost use Rattle.c_matcher_calls.specs.Calls.{searches};
 
 pub use bytes::MatcherBytes;
 pub use pieces::{feed, finish, start};
+use refusal::Refusal;
 
 #[tactic(auto, using(lists::proofs::Bools::tests, crate::proofs::Answers::small), unfolding(crate::specs::Calls::searches))]
 pub fn search(image: &[u8], kind: &mut u32, handed: &mut u32) -> u32
@@ -17,7 +18,7 @@ pub fn search(image: &[u8], kind: &mut u32, handed: &mut u32) -> u32
         ≡ searches image.now kind.old handed.old }
 {
     if !image::image_length(image.len()) {
-        return 1;
+        return Refusal::ImageLength as u32;
     }
     let found = matcher::search(image);
     *kind = kind::kind_number(found.kind) as u32;

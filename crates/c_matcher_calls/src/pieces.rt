@@ -4,6 +4,7 @@ ghost use Rattle.out_params.specs.Places.{answered_at};
 ghost use Rattle.c_matcher_calls.specs.Calls.{starts, feeds, finishes};
 
 use crate::bytes::{MatcherBytes, is_matcher, matcher_bytes, matcher_of};
+use refusal::Refusal;
 
 #[tactic(auto, unfolding(crate::specs::Calls::starts))]
 pub fn start(matcher: &mut MatcherBytes) -> u32
@@ -19,7 +20,7 @@ pub fn feed(matcher: &mut MatcherBytes, piece: &[u8], done: &mut u32) -> u32
         ≡ feeds matcher.old piece.now done.old }
 {
     if !is_matcher(matcher) {
-        return 2;
+        return Refusal::Record as u32;
     }
     let next = matcher::feed(matcher_of(matcher), piece).matcher;
     *matcher = matcher_bytes(next);
@@ -33,13 +34,13 @@ pub fn finish(matcher: &MatcherBytes, header: &[u8], length: usize, kind: &mut u
         ≡ answered_at (finishes matcher.now header.now length) kind.old }
 {
     if !image::image_length(length) {
-        return 1;
+        return Refusal::ImageLength as u32;
     }
     if header.len() < 192 {
-        return 1;
+        return Refusal::ImageLength as u32;
     }
     if !is_matcher(matcher) {
-        return 2;
+        return Refusal::Record as u32;
     }
     *kind = kind::kind_number(matcher::finish(matcher_of(matcher), header, length)) as u32;
     0

@@ -14,6 +14,7 @@ ghost use Rattle.c_record.specs.Calls.{announces, takes_bit, gives_bit};
 use c_record::RecordBytes;
 use eeprom::{Drawn, Eeprom, EepromStep, Shifted};
 use memory::NO_FILE;
+use refusal::Refusal;
 
 // Takes no memory; the contract holds for any memory.
 #[tactic(auto, using(crate::proofs::SerialCalls::announcing))]
@@ -23,7 +24,7 @@ fn dma_valid(cart: &mut RecordBytes, words: u32) -> u32
 {
     let e = c_record::eeprom_in(cart);
     if !eeprom::dma_allowed(words as usize, e) {
-        return 5;
+        return Refusal::DmaTooLate as u32;
     }
     let next = eeprom::begin_dma(words as usize, e);
     c_record::put_width(cart, next.width, next.large);
@@ -35,7 +36,7 @@ fn dma_any(cart: &mut RecordBytes, words: u32) -> u32
     ensures { (m : List ℕ) → (result, cart.new, m) ≡ announces words cart.old m }
 {
     if !c_record::is_record(cart) {
-        return 2;
+        return Refusal::Record as u32;
     }
     dma_valid(cart, words)
 }
@@ -92,13 +93,13 @@ fn write_valid(
 {
     let kind = c_record::kind_in(cart);
     if memory.len() != kind::memory_size(kind) {
-        return 3;
+        return Refusal::MemoryLength as u32;
     }
     if tallies.len() != kind::tally_count(kind) {
-        return 16;
+        return Refusal::TallyCount as u32;
     }
     if !kind::uses_eeprom(kind) {
-        return 4;
+        return Refusal::NoEeprom as u32;
     }
     let b = (value % 2) as u64;
     let e = c_record::eeprom_in(cart);
@@ -128,7 +129,7 @@ fn write_any(
         tallies.old changed.old }
 {
     if !c_record::is_record(cart) {
-        return 2;
+        return Refusal::Record as u32;
     }
     write_valid(cart, &mut memory[..], &mut tallies[..], value, changed)
 }
@@ -161,7 +162,7 @@ fn read_valid(cart: &mut RecordBytes, memory: &[u8], bit: &mut u32) -> u32
 {
     let kind = c_record::kind_in(cart);
     if memory.len() != kind::memory_size(kind) {
-        return 3;
+        return Refusal::MemoryLength as u32;
     }
     let e = c_record::eeprom_in(cart);
     *bit = eeprom::read_bit(kind::uses_eeprom(kind), e, memory) as u32;
@@ -184,7 +185,7 @@ fn read_any(cart: &mut RecordBytes, memory: &[u8], bit: &mut u32) -> u32
         ≡ gives_bit cart.old memory.now bit.old }
 {
     if !c_record::is_record(cart) {
-        return 2;
+        return Refusal::Record as u32;
     }
     read_valid(cart, &memory[..], bit)
 }

@@ -8,6 +8,7 @@ ghost use Rattle.c_record.specs.Calls.{opens, gives_state, restores};
 
 use c_record::{RecordBytes, layout};
 use chip_record::{StateBytes, layout as state};
+use refusal::Refusal;
 
 // The record is written whatever it was: all 0 if the opening is refused.
 pub fn from_bytes(
@@ -63,7 +64,7 @@ pub fn chip_state(cart: &RecordBytes, bytes: &mut StateBytes) -> u32
         ≡ gives_state cart.now m bytes.old }
 {
     if !c_record::is_record(cart) {
-        return 2;
+        return Refusal::Record as u32;
     }
     copy_out(&cart[..], &mut bytes[..]);
     0
@@ -75,7 +76,7 @@ pub fn restore_chip_state(cart: &mut RecordBytes, bytes: &[u8]) -> u32
         ≡ restores bytes.now cart.old m }
 {
     if !c_record::is_record(cart) {
-        return 2;
+        return Refusal::Record as u32;
     }
     if let Err(refusal) = chip_record::state_questions(bytes) {
         return u32::from(refusal.number());

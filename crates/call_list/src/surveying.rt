@@ -66,10 +66,10 @@ pub fn ask_list(
         return Err(Refusal::ByteWrite);
     }
     if scratch < memory {
-        return Err(Refusal::Destination);
+        return Err(Refusal::DestinationLength);
     }
     if s.left.is_none() {
-        return Err(Refusal::Destination);
+        return Err(Refusal::DestinationLength);
     }
     Ok(())
 }

@@ -44,7 +44,7 @@ pub fn store_door(cart: Cartridge, n: usize, k: usize) -> Result<(), Refusal>
 {
     door(cart, n)?;
     if k != kind::tally_count(cart.kind) {
-        return Err(Refusal::Tallies);
+        return Err(Refusal::TallyCount);
     }
     Ok(())
 }

@@ -111,22 +111,22 @@ pub fn field_questions(b: &[u8]) -> Result<(), Refusal>
     ensures { number_of result ≡ asked (field_questions b.now) }
 {
     if 6 < b[layout::PHASE] {
-        return Err(Refusal::Phase);
+        return Err(Refusal::StatePhase);
     }
     if !flash::state_allowed(b[layout::FLASH_STATE]) {
-        return Err(Refusal::FlashState);
+        return Err(Refusal::StateFlash);
     }
     if !flags_allowed(b[layout::BANK], b[layout::ID_MODE], b[layout::LARGE]) {
-        return Err(Refusal::Flags);
+        return Err(Refusal::StateSwitches);
     }
     if !eeprom::width_allowed(b[layout::WIDTH]) {
-        return Err(Refusal::Width);
+        return Err(Refusal::StateWidth);
     }
     if !places_allowed(
         lists::low16(b[layout::BLOCK], b[layout::BLOCK + 1]),
         b[layout::PLACE],
     ) {
-        return Err(Refusal::Places);
+        return Err(Refusal::StateRanges);
     }
     if b[layout::COUNT]
         < eeprom::count_limit(
@@ -137,9 +137,9 @@ pub fn field_questions(b: &[u8]) -> Result<(), Refusal>
         return Ok(());
     }
     if 64 < b[layout::COUNT] {
-        return Err(Refusal::Places);
+        return Err(Refusal::StateRanges);
     }
-    Err(Refusal::Count)
+    Err(Refusal::StateCount)
 }
 
 #[tactic(auto, using(lists::proofs::Bools::tests))]

@@ -31,11 +31,11 @@ pub fn state_questions(b: &[u8]) -> Result<(), Refusal>
         return Err(Refusal::StateLength);
     }
     if b[layout::LAYOUT] != layout::LAYOUT_2 {
-        return Err(Refusal::Layout);
+        return Err(Refusal::StateLayout);
     }
     field_questions(&b[..layout::CHIP_SIZE])?;
     if 1 < b[layout::FLAG] {
-        return Err(Refusal::ChangedFlag);
+        return Err(Refusal::StateFlag);
     }
     Ok(())
 }

@@ -75,7 +75,7 @@ pub fn save_data(cart: Cartridge, memory: &[u8], destination: &mut [u8]) -> Repl
     cart::door(cart, memory.len())?;
     let n = file_length(cart.kind, cart.chip.eeprom.large);
     if destination.len() < n {
-        return Err(Refusal::Destination);
+        return Err(Refusal::DestinationLength);
     }
     memory::copy_file(destination, &memory[..n]);
     Ok(cart::done(n as u32, cart))

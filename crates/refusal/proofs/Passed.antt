@@ -4,9 +4,9 @@ use lib.Dec.{eqb}
 use borrow.Author.Tests.{ne_eqb}
 use Rattle.std.specs.Result.{IsErrAnd, is_ok}
 use Rattle.refusal.specs.declared.Refusal.{Refusal}
-use Rattle.refusal.specs.declared.Refusal.TheVariants.{ImageLength, Record, MemoryLength, NoEeprom, AddressUnderWay, StateLength, Phase}
-use Rattle.refusal.specs.declared.Refusal.TheVariants.{FlashState, Flags, Width, Places, Count, Destination, FileLength, Part, Tallies}
-use Rattle.refusal.specs.declared.Refusal.TheVariants.{Layout, ChangedFlag, UpperHalf, ByteWrite, NoList}
+use Rattle.refusal.specs.declared.Refusal.TheVariants.{ImageLength, Record, MemoryLength, NoEeprom, DmaTooLate, StateLength, StatePhase}
+use Rattle.refusal.specs.declared.Refusal.TheVariants.{StateFlash, StateSwitches, StateWidth, StateRanges, StateCount, DestinationLength, FileLength, Part, TallyCount}
+use Rattle.refusal.specs.declared.Refusal.TheVariants.{StateLayout, StateFlag, UpperHalf, ByteWrite, NoList}
 use Rattle.refusal.specs.Refusals.{refusal_number, number_of}
 
 pub passed : {A : Type 0} (t : Result A Refusal) (e : Refusal) → IsErrAnd t (λ f. f ≡ e) → number_of t ≡ refusal_number e
@@ -19,20 +19,20 @@ positive ImageLength = omega arith
 positive Record = omega arith
 positive MemoryLength = omega arith
 positive NoEeprom = omega arith
-positive AddressUnderWay = omega arith
+positive DmaTooLate = omega arith
 positive StateLength = omega arith
-positive Phase = omega arith
-positive FlashState = omega arith
-positive Flags = omega arith
-positive Width = omega arith
-positive Places = omega arith
-positive Count = omega arith
-positive Destination = omega arith
+positive StatePhase = omega arith
+positive StateFlash = omega arith
+positive StateSwitches = omega arith
+positive StateWidth = omega arith
+positive StateRanges = omega arith
+positive StateCount = omega arith
+positive DestinationLength = omega arith
 positive FileLength = omega arith
 positive Part = omega arith
-positive Tallies = omega arith
-positive Layout = omega arith
-positive ChangedFlag = omega arith
+positive TallyCount = omega arith
+positive StateLayout = omega arith
+positive StateFlag = omega arith
 positive UpperHalf = omega arith
 positive ByteWrite = omega arith
 positive NoList = omega arith

@@ -19,7 +19,7 @@ pub fn eeprom_begin_dma(cart: Cartridge, words: usize) -> Reply
     cart::ask_record(cart)?;
     let e = cart.chip.eeprom;
     if !eeprom::dma_allowed(words, e) {
-        return Err(Refusal::AddressUnderWay);
+        return Err(Refusal::DmaTooLate);
     }
     Ok(cart::done(
         0,

@@ -40,7 +40,7 @@ pub fn from_number(image: &[u8], part: u32, memory: &mut [u8], tallies: &mut [u1
         return Err(Refusal::MemoryLength);
     }
     if tallies.len() != kind::tally_count(kind) {
-        return Err(Refusal::Tallies);
+        return Err(Refusal::TallyCount);
     }
     if !part::number_fits(part, kind) {
         return Err(Refusal::Part);
@@ -105,7 +105,7 @@ fn ask_tallies(cart: Cartridge, tallies: &[u16]) -> Result<(), Refusal>
 {
     cart::ask_record(cart)?;
     if tallies.len() != kind::tally_count(cart.kind) {
-        return Err(Refusal::Tallies);
+        return Err(Refusal::TallyCount);
     }
     Ok(())
 }

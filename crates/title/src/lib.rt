@@ -78,7 +78,7 @@ pub fn header_title(image: &[u8], destination: &mut [u8]) -> Result<u32, Refusal
     let n = replace(&mut text, &image[0xA0..0xAC]);
     let len = trim(&text[..n]);
     if destination.len() < len {
-        return Err(Refusal::Destination);
+        return Err(Refusal::DestinationLength);
     }
     lists::copy(destination, &text[..len]);
     Ok(len as u32)
