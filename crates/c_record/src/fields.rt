@@ -1,6 +1,6 @@
 // What a call needs of a record's bytes.
-ghost use Rattle.std.specs.Prelude.{◌≡◌, length};
-ghost use Rattle.c_record.specs.RecordBytes.{record_size, cart_of};
+ghost use Rattle.std.specs.Prelude.{◌≡◌};
+ghost use Rattle.c_record.specs.RecordBytes.{cart_of};
 
 use crate::layout;
 use crate::layout::RecordBytes;
@@ -21,17 +21,10 @@ pub fn kind_in(cart: &RecordBytes) -> SaveType
     kind::kind_of(cart[layout::KIND])
 }
 
-fn part_of(bytes: &[u8]) -> Part
-    requires { length bytes.now ≡ record_size }
-    ensures { result ≡ (cart_of bytes.now).part }
-{
-    part::part_of(bytes[layout::PART] as u32)
-}
-
 pub fn part_in(cart: &RecordBytes) -> Part
     ensures { result ≡ (cart_of cart.now).part }
 {
-    part_of(&cart[..])
+    part::part_of(u32::from(cart[layout::PART]))
 }
 
 pub fn flash_in(cart: &RecordBytes) -> Flash
@@ -44,16 +37,8 @@ pub fn flash_in(cart: &RecordBytes) -> Flash
     }
 }
 
-fn eeprom_of(bytes: &[u8]) -> Eeprom
-    requires { length bytes.now ≡ record_size }
-    ensures { result ≡ (cart_of bytes.now).chip.eeprom }
-{
-    let chip = chip_record::chip_of(&bytes[layout::CHIP..layout::PART]);
-    chip.eeprom
-}
-
 pub fn eeprom_in(cart: &RecordBytes) -> Eeprom
     ensures { result ≡ (cart_of cart.now).chip.eeprom }
 {
-    eeprom_of(&cart[..])
+    chip_record::chip_of(&cart[layout::CHIP..layout::PART]).eeprom
 }

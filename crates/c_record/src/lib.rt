@@ -6,10 +6,10 @@ mod fields;
 pub mod layout;
 mod outward;
 
-ghost use Rattle.std.specs.Prelude.{◌≡◌, true, ◌&&◌, leb, length};
+ghost use Rattle.std.specs.Prelude.{◌≡◌, true, ◌&&◌, leb};
 ghost use Rattle.kind.specs.Kind.{kind_of};
 ghost use Rattle.part.specs.Part.{number_fits};
-ghost use Rattle.c_record.specs.RecordBytes.{record_size, is_record, Valid};
+ghost use Rattle.c_record.specs.RecordBytes.{is_record, Valid};
 
 pub use fields::{eeprom_in, flash_in, kind_in, len_in, part_in};
 pub use layout::RecordBytes;
@@ -39,27 +39,19 @@ fn kind_and_part(kind: u8, part: u8) -> bool
     }
 }
 
-// Question 2, of bytes.
-fn valid(bytes: &[u8]) -> bool
-    requires { length bytes.now ≡ record_size }
-    ensures value { result ≡ is_record bytes.now }
-    ensures valid { is_record bytes.now ≡ true → Valid bytes.now }
-{
-    if !kind_and_part(bytes[layout::KIND], bytes[layout::PART]) {
-        return false;
-    }
-    if 1 < bytes[layout::DIRTY] {
-        return false;
-    }
-    if !image::image_length(lists::low32(bytes[0], bytes[1], bytes[2], bytes[3]) as usize) {
-        return false;
-    }
-    chip_record::field_questions(&bytes[layout::CHIP..layout::PART]).is_ok()
-}
-
+// Question 2.
 pub fn is_record(cart: &RecordBytes) -> bool
     ensures value { result ≡ is_record cart.now }
     ensures valid { is_record cart.now ≡ true → Valid cart.now }
 {
-    valid(&cart[..])
+    if !kind_and_part(cart[layout::KIND], cart[layout::PART]) {
+        return false;
+    }
+    if 1 < cart[layout::DIRTY] {
+        return false;
+    }
+    if !image::image_length(lists::low32(cart[0], cart[1], cart[2], cart[3]) as usize) {
+        return false;
+    }
+    chip_record::field_questions(&cart[layout::CHIP..layout::PART]).is_ok()
 }
