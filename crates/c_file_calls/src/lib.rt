@@ -1,4 +1,5 @@
 // `load_save`, `save_data` and import on the bytes of a record.
+// Kept: a call answers the number of a refusal, which C is returned.
 
 #![tactic(auto)]
 

@@ -1,4 +1,5 @@
 // What is asked of an image alone, or of a kind's and a part's number. Values go to out-parameters.
+// Kept: a call answers the number of a refusal, which C is returned.
 
 #![tactic(auto)]
 

@@ -1,4 +1,5 @@
 // What a part shows in ID mode.
+// Kept: a call answers the number of a refusal, which C is returned.
 ghost use Rattle.std.specs.Prelude.{◌≡◌};
 ghost use Rattle.out_params.specs.Places.{answered_at, id_word_answer};
 

@@ -1,4 +1,5 @@
 // The CRC of an image that comes in parts. These calls ask nothing.
+// Kept: a call answers the number of a refusal, which C is returned.
 ghost use Rattle.std.specs.Prelude.{◌≡◌};
 ghost use Rattle.out_params.specs.Places.{told};
 ghost use Rattle.crc.specs.Pieces.{crc_start, crc_feed, crc_finish};

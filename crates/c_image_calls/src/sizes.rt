@@ -1,4 +1,5 @@
 // The sizes of files and memories.
+// Kept: a call answers the number of a refusal, which C is returned.
 ghost use Rattle.out_params.specs.Places.{answered_at, fit_answer, memory_size_answer, size_answer};
 ghost use Rattle.std.specs.Prelude.{◌≡◌};
 

@@ -1,4 +1,5 @@
 // The single reading for C: the whole search with its number, and a matcher of 13 bytes for an image in pieces.
+// Kept: a call answers the number of a refusal, which C is returned.
 
 #![tactic(auto)]
 

@@ -1,4 +1,5 @@
 // The kind of an image that comes in pieces.
+// Kept: a call answers the number of a refusal, which C is returned.
 ghost use Rattle.std.specs.Prelude.{◌≡◌};
 ghost use Rattle.out_params.specs.Places.{answered_at};
 ghost use Rattle.c_matcher_calls.specs.Calls.{starts, feeds, finishes};

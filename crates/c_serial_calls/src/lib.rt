@@ -1,6 +1,7 @@
 // `eeprom_begin_dma`, `eeprom_write` and `eeprom_read` on the bytes of a record. In front of question 2 is the
 // quick test; a function `_any` is for every record. It is called last and at two places, so that the compiler
 // leaves it out of line and the quick way pays nothing for it.
+// Kept: each function answers the number of a refusal, which C is returned, and hands it on as it is.
 
 #![tactic(auto)]
 

@@ -1,4 +1,5 @@
 // Opening, `chip_state` and restore.
+// Kept: a call answers the number of a refusal, which C is returned.
 ghost use Rattle.std.specs.Prelude.{◌≡◌, List, [], ◌∷◌, ◌++◌, ℕ, eqb, length, get_or, set};
 ghost use Rattle.lists.specs.Lists.{bit, with_part};
 ghost use Rattle.chip_record.specs.ChipState.{chip_record_size};

@@ -1,5 +1,6 @@
 // What a record tells in one number: its changed flag, whether its kind has an EEPROM, and where that starts; and what
 // its tallies tell.
+// Kept: a call answers the number of a refusal, which C is returned.
 ghost use Rattle.std.specs.Prelude.{◌≡◌, List, ℕ};
 ghost use Rattle.c_record.specs.Calls.{takes_flag, tells_eeprom, tells_window, tells_blank, tells_in_use};
 

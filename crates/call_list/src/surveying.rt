@@ -39,6 +39,7 @@ fn survey(list: &[u8], left: Option<usize>) -> Survey
         left,
     };
     let mut rest = list;
+    // Kept: an item tells how many bytes it takes, and no iterator steps by that.
     while !rest.is_empty() {
         let item = item_in(rest);
         s = surveyed(s, item);

@@ -18,6 +18,7 @@ use kind::SaveType;
 const LONGEST_TRACE: usize = 500000;
 
 // The number of the usual part.
+// Kept: the replay is C's call, which takes a number.
 const USUAL_PART: u32 = 0;
 
 // Writes the list to the front of the room and returns its length.

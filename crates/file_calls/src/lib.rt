@@ -58,6 +58,7 @@ fn eeprom_length(large: bool) -> usize
 }
 
 // Length of the file that `save_data` writes; 0 for kind None, which has no file.
+// Kept: a public promise; no kind has a file of 0 bytes.
 pub fn file_length(kind: SaveType, large: bool) -> usize
     ensures { result ≡ file_length kind large }
 {

@@ -42,6 +42,7 @@ fn replace(out: &mut [u8], s: &[u8]) -> usize
 {
     let mut t = s;
     let mut n: usize = 0;
+    // Kept: a turn takes as much of the text as its sequence has, and no iterator steps by that.
     while t.len() > 0 {
         let shown = show(&mut out[n..], t);
         n += shown.len;
