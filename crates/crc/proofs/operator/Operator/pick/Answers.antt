@@ -1,4 +1,4 @@
--- `crc::operator::pick` meets its contract: what is picked, and what the digits that are left pick, is the whole.
+-- `crc::operator::Operator::pick` meets its contract: what is picked, and what the digits that are left pick, is the whole.
 -- Assumes nothing.
 use mathlib.Core.Path.{sym, ap, ◌∙◌}
 use Prim.Native.Nat.{ℕ, ◌+◌, ◌/◌}
@@ -7,12 +7,12 @@ use lib.Bits.{bit_xor}
 use lib.ListN.{drop}
 use Rattle.crc.specs.Operator.{picked}
 use Rattle.crc.proofs.Digits.{pick-on, pick_end}
-use Rattle.crc.proofs.operator.pick.Goals as goal
+use Rattle.crc.proofs.operator.Operator.pick.Goals as goal
 
 pub loop-number-preserved : goal.loop-number-preserved
 loop-number-preserved c =
     let b = c.loop-number in
-    let op = c.args.op.now in
+    let op = c.args.self.now.numbers in
     ap (λ (x : ℕ). bit_xor (bit_xor b.sum x) (picked (drop (b.number-index + 1) op) (b.digits / 2))) c.if_one-sum.ensures
     ∙ pick-on op b.number-index b.sum b.digits (omega arith)
     ∙ b.invariant
@@ -20,4 +20,4 @@ loop-number-preserved c =
 pub returns : goal.returns
 returns c =
     let b = c.loop-number in
-    sym (pick_end c.args.op.now b.number-index b.sum b.digits (omega arith)) ∙ b.invariant
+    sym (pick_end c.args.self.now.numbers b.number-index b.sum b.digits (omega arith)) ∙ b.invariant
