@@ -1,6 +1,6 @@
 -- The register by its digits: each digit that is 1 leaves its own number, and the numbers are added without carries.
 -- Assumes nothing.
-use mathlib.Core.Path.{◌≡◌, sym, ap, ◌∙◌}
+use mathlib.Core.Path.{◌≡◌, refl, sym, ap, ◌∙◌}
 use mathlib.Core.List.{List}
 use Prim.Native.Nat.{ℕ, zero, suc, ◌+◌, ◌*◌, ◌/◌, ◌%◌, ◌^◌, ◌<◌}
 use native.Mathlib.Nat.{pow-suc, mul_assoc, mul_comm, add-mul, div-add-mod'}
@@ -56,6 +56,11 @@ picks n (suc k) i c h =
 -- a register of 32 digits, n bits later
 pub later : (n c : ℕ) → c < 2 ^ 32 → picked (advanced n 32 0) c ≡ crc_bits n c
 later n c h = let o : c * 2 ^ 0 ≡ c = omega arith in rw (picks n 32 0 c h, o)
+
+pub advanced-length : (n k i : ℕ) → length (advanced n k i) ≡ k
+unfolding advanced
+advanced-length n zero i = refl
+advanced-length n (suc k) i = ap suc (advanced-length n k (suc i))
 
 -- picking, one digit more, and none left
 pub pick-on : (op : List ℕ) (i r v : ℕ) → i < length op

@@ -8,7 +8,7 @@ use crate::operator::Operator;
 use crate::table::Table;
 
 // The lanes of a block, joined one after the other.
-fn over_block(table: &Table, op: &Operator, start: u32, s: &[u8]) -> u32
+fn over_block(table: Table, op: Operator, start: u32, s: &[u8]) -> u32
     requires s_len { length s.now ≡ 32768 }
     ensures { result ≡ fold crc_byte start s.now }
 {
@@ -20,7 +20,7 @@ fn over_block(table: &Table, op: &Operator, start: u32, s: &[u8]) -> u32
     c
 }
 
-pub fn over_bytes(table: &Table, op: &Operator, start: u32, s: &[u8]) -> u32
+pub fn over_bytes(table: Table, op: Operator, start: u32, s: &[u8]) -> u32
     ensures { result ≡ fold crc_byte start s.now }
 {
     let blocks = s.chunks_exact(32768);

@@ -18,7 +18,7 @@ fn words_in(registers: &mut [u32; 8], s: &[u8], i: usize)
 }
 
 // Eight bits leave each register.
-fn bytes_out(table: &Table, registers: &mut [u32; 8])
+fn bytes_out(table: Table, registers: &mut [u32; 8])
     ensures { registers.new ≡ bytes_out registers.old }
 {
     for register in registers.iter_mut() {
@@ -27,7 +27,7 @@ fn bytes_out(table: &Table, registers: &mut [u32; 8])
 }
 
 // What each lane leaves. The first continues from `c`, the others begin at 0.
-pub fn lane_ends(table: &Table, c: u32, s: &[u8]) -> [u32; 8]
+pub fn lane_ends(table: Table, c: u32, s: &[u8]) -> [u32; 8]
     requires s_len { length s.now ≡ 32768 }
     ensures { result ≡ lane_ends c s.now 4096 }
 {

@@ -3,7 +3,7 @@
 ghost use Rattle.std.specs.Prelude.{true, ◌≡◌};
 ghost use Rattle.crc.specs.Crc.{crc_bits, is_table};
 
-const NUMBERS: [u32; 256] = [
+pub const TABLE: [u32; 256] = [
     0x00000000, 0x77073096, 0xEE0E612C, 0x990951BA, 0x076DC419, 0x706AF48F, 0xE963A535, 0x9E6495A3,
     0x0EDB8832, 0x79DCB8A4, 0xE0D5E91E, 0x97D2D988, 0x09B64C2B, 0x7EB17CBD, 0xE7B82D07, 0x90BF1D91,
     0x1DB71064, 0x6AB020F2, 0xF3B97148, 0x84BE41DE, 0x1ADAD47D, 0x6DDDE4EB, 0xF4D4B551, 0x83D385C7,
@@ -38,16 +38,15 @@ const NUMBERS: [u32; 256] = [
     0xB3667A2E, 0xC4614AB8, 0x5D681B02, 0x2A6F2B94, 0xB40BBE37, 0xC30C8EA1, 0x5A05DF1B, 0x2D02EF8D,
 ];
 
-pub struct Table {
-    numbers: [u32; 256],
-    ghost right: { is_table 0 numbers ≡ true },
+#[derive(Clone, Copy)]
+pub struct Table<'a> {
+    pub numbers: &'a [u32; 256],
+    ghost right: { is_table 0 numbers.now ≡ true },
 }
 
-pub const TABLE: Table = Table { numbers: NUMBERS };
-
-impl Table {
+impl Table<'_> {
     // Eight bits leave the register.
-    pub fn byte_out(&self, v: u32) -> u32
+    pub fn byte_out(self, v: u32) -> u32
         ensures { result ≡ crc_bits 8 v }
     {
         let k = (v % 256) as usize;

@@ -6,13 +6,13 @@ use Rattle.crc.specs.Pieces.{crc_feed}
 use Rattle.crc.proofs.Doubling.{applied, doubled, lane-doubled}
 use Rattle.crc.proofs.pieces.crc_feed.Goals as goal
 
-pub invariant_of-over_bytes : goal.invariant_of-over_bytes
+pub invariant_of-table : goal.invariant_of-table
 unfolding is_table crc_bits
-invariant_of-over_bytes c = record { right = refl }
+invariant_of-table c = record { right = refl }
 
-pub invariant_of-over_bytes-2 : goal.invariant_of-over_bytes-2
+pub invariant_of-op : goal.invariant_of-op
 unfolding crc_bits advanced picked applied doubled
-invariant_of-over_bytes-2 c = record { right = lane-doubled refl }
+invariant_of-op c = record { right = lane-doubled refl }
 
 pub returns : goal.returns
 unfolding crc_feed

@@ -13,5 +13,5 @@ returns c =
     let a = c.args in
     ap (λ (x : ℕ). bit_xor x a.b)
     (c.pick.ensures
-    ∙ ap (λ (l : List ℕ). picked l a.a) a.self.now.right
+    ∙ ap (λ (l : List ℕ). picked l a.a) a.self.right
     ∙ later 32768 a.a (omega arith))

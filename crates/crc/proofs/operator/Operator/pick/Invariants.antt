@@ -7,4 +7,4 @@ use Rattle.crc.specs.Operator.{picked}
 use Rattle.crc.proofs.operator.Operator.pick.Given as goal
 
 abbrev pub invariant-loop-number : goal.invariant-loop-number
-invariant-loop-number l = bit_xor l.sum (picked (drop l.number-index l.self.numbers) l.digits) ≡ picked l.self.numbers l.c
+invariant-loop-number l = bit_xor l.sum (picked (drop l.number-index l.self.numbers.now) l.digits) ≡ picked l.self.numbers.now l.c

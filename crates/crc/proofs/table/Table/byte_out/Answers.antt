@@ -3,4 +3,4 @@ use Rattle.crc.proofs.Polynomial.{by-table}
 use Rattle.crc.proofs.table.Table.byte_out.Goals as goal
 
 pub returns : goal.returns
-returns c = let a = c.args in by-table a.self.now.numbers a.v a.self.now.right
+returns c = let a = c.args in by-table a.self.numbers.now a.v a.self.right
