@@ -1,5 +1,5 @@
-// The operator that joins lanes: number i is digit i of the register after the 32,768 bits of a lane have left it. It
-// is passed by reference, as the table is.
+// The operator that joins lanes: number i is digit i of the register after the 32,768 bits of a lane have left it.
+// `Operator` holds it by reference, as `Table` does.
 ghost use Rattle.std.specs.Prelude.{◌≡◌, ◌*◌, ◌%◌};
 ghost use Rattle.std.specs.Int.Bits.{bit_xor};
 ghost use Rattle.crc.specs.Crc.{crc_bits};

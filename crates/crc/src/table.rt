@@ -1,5 +1,5 @@
-// The table of 256 numbers: number i is i after its eight bits have left the register. It is passed by reference: a
-// constant array that is indexed in place is built anew at each access.
+// The table of 256 numbers: number i is i after its eight bits have left the register. `Table` holds it by reference: a
+// constant array that is indexed in place is built anew at each access, and one inside a constant struct at each loan.
 ghost use Rattle.std.specs.Prelude.{true, ◌≡◌};
 ghost use Rattle.crc.specs.Crc.{crc_bits, is_table};
 
