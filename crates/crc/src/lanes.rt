@@ -1,10 +1,9 @@
 // A block of 32,768 bytes in eight lanes of 4,096. No lane waits for another; a round over all of them takes four bytes
 // of each.
-ghost use Rattle.std.specs.Prelude.{true, ◌≡◌, ◌+◌, ◌≤◌, length};
-ghost use Rattle.crc.specs.Crc.{is_table};
+ghost use Rattle.std.specs.Prelude.{◌≡◌, ◌+◌, ◌≤◌, length};
 ghost use Rattle.crc.specs.Lanes.{words_in, bytes_out, lane_ends};
 
-use crate::table::byte_out;
+use crate::table::Table;
 use crate::words::word_at;
 
 // Four bytes are added to each register.
@@ -19,18 +18,16 @@ fn words_in(registers: &mut [u32; 8], s: &[u8], i: usize)
 }
 
 // Eight bits leave each register.
-fn bytes_out(table: &[u32; 256], registers: &mut [u32; 8])
-    requires { is_table 0 table.now ≡ true }
+fn bytes_out(table: Table, registers: &mut [u32; 8])
     ensures { registers.new ≡ bytes_out registers.old }
 {
     for register in registers.iter_mut() {
-        *register = byte_out(table, *register);
+        *register = table.byte_out(*register);
     }
 }
 
 // What each lane leaves. The first continues from `c`, the others begin at 0.
-pub fn lane_ends(table: &[u32; 256], c: u32, s: &[u8]) -> [u32; 8]
-    requires table_value { is_table 0 table.now ≡ true }
+pub fn lane_ends(table: Table, c: u32, s: &[u8]) -> [u32; 8]
     requires s_len { length s.now ≡ 32768 }
     ensures { result ≡ lane_ends c s.now 4096 }
 {

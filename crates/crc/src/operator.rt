@@ -1,6 +1,6 @@
-// The operator that joins lanes: number i is digit i of the register after the 32,768 bits of a lane have left it. It
-// is passed by reference, as the table is.
-ghost use Rattle.std.specs.Prelude.{◌≡◌, ◌*◌, ◌%◌, length};
+// The operator that joins lanes: number i is digit i of the register after the 32,768 bits of a lane have left it.
+// `Operator` holds it by reference, as `Table` does.
+ghost use Rattle.std.specs.Prelude.{◌≡◌, ◌*◌, ◌%◌};
 ghost use Rattle.std.specs.Int.Bits.{bit_xor};
 ghost use Rattle.crc.specs.Crc.{crc_bits};
 ghost use Rattle.crc.specs.Operator.{lane_operator, picked};
@@ -12,6 +12,12 @@ pub const AFTER_LANE: [u32; 32] = [
     0xFA1CC1CA, 0x2F4885D5, 0x5E910BAA, 0xBD221754, 0xA13528E9, 0x991B5793, 0xE947A967, 0x09FE548F,
 ];
 
+#[derive(Clone, Copy)]
+pub struct Operator<'a> {
+    pub numbers: &'a [u32; 32],
+    ghost right: { numbers.now ≡ lane_operator },
+}
+
 // The number where the lowest digit of `v` is 1, and else 0.
 fn if_one(x: u32, v: u32) -> u32
     ensures { result ≡ x * (v % 2) }
@@ -19,24 +25,24 @@ fn if_one(x: u32, v: u32) -> u32
     x * (v % 2)
 }
 
-// The numbers of `op` at the digits of `c` that are 1, added without carries.
-fn pick(op: &[u32; 32], c: u32) -> u32
-    requires { length op.now ≡ 32 }
-    ensures { result ≡ picked op.now c }
-{
-    let mut sum = 0;
-    let mut digits = c;
-    for number in op {
-        sum ^= if_one(*number, digits);
-        digits >>= 1;
+impl Operator<'_> {
+    // The numbers at the digits of `c` that are 1, added without carries.
+    fn pick(self, c: u32) -> u32
+        ensures { result ≡ picked self.entry.numbers.now c }
+    {
+        let mut sum = 0;
+        let mut digits = c;
+        for number in self.numbers {
+            sum ^= if_one(*number, digits);
+            digits >>= 1;
+        }
+        sum
     }
-    sum
-}
 
-// The register `a` after a lane whose own bytes leave `b`.
-pub fn join(op: &[u32; 32], a: u32, b: u32) -> u32
-    requires { op.now ≡ lane_operator }
-    ensures { result ≡ bit_xor (crc_bits 32768 a) b }
-{
-    pick(op, a) ^ b
+    // The register `a` after a lane whose own bytes leave `b`.
+    pub fn join(self, a: u32, b: u32) -> u32
+        ensures { result ≡ bit_xor (crc_bits 32768 a) b }
+    {
+        self.pick(a) ^ b
+    }
 }

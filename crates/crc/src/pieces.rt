@@ -3,8 +3,8 @@ ghost use Rattle.std.specs.Prelude.{◌≡◌};
 ghost use Rattle.crc.specs.Pieces.{crc_start, crc_feed, crc_finish};
 
 use crate::blocks::over_bytes;
-use crate::operator::AFTER_LANE;
-use crate::table::TABLE;
+use crate::operator::{AFTER_LANE, Operator};
+use crate::table::{TABLE, Table};
 
 pub fn crc_start() -> u32
     ensures { result ≡ crc_start }
@@ -15,7 +15,11 @@ pub fn crc_start() -> u32
 pub fn crc_feed(c: u32, part: &[u8]) -> u32
     ensures { result ≡ crc_feed c part.now }
 {
-    over_bytes(&TABLE, &AFTER_LANE, c, part)
+    let table = Table { numbers: &TABLE };
+    let op = Operator {
+        numbers: &AFTER_LANE,
+    };
+    over_bytes(table, op, c, part)
 }
 
 pub fn crc_finish(c: u32) -> u32

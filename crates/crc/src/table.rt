@@ -1,5 +1,5 @@
-// The table of 256 numbers: number i is i after its eight bits have left the register. It is passed by reference: a
-// constant array that is indexed in place is built anew at each access.
+// The table of 256 numbers: number i is i after its eight bits have left the register. `Table` holds it by reference: a
+// constant array that is indexed in place is built anew at each access, and one inside a constant struct at each loan.
 ghost use Rattle.std.specs.Prelude.{true, ◌≡◌};
 ghost use Rattle.crc.specs.Crc.{crc_bits, is_table};
 
@@ -38,11 +38,18 @@ pub const TABLE: [u32; 256] = [
     0xB3667A2E, 0xC4614AB8, 0x5D681B02, 0x2A6F2B94, 0xB40BBE37, 0xC30C8EA1, 0x5A05DF1B, 0x2D02EF8D,
 ];
 
-// Eight bits leave the register.
-pub fn byte_out(table: &[u32; 256], v: u32) -> u32
-    requires { is_table 0 table.now ≡ true }
-    ensures { result ≡ crc_bits 8 v }
-{
-    let k = (v % 256) as usize;
-    table[k] ^ (v >> 8)
+#[derive(Clone, Copy)]
+pub struct Table<'a> {
+    pub numbers: &'a [u32; 256],
+    ghost right: { is_table 0 numbers.now ≡ true },
+}
+
+impl Table<'_> {
+    // Eight bits leave the register.
+    pub fn byte_out(self, v: u32) -> u32
+        ensures { result ≡ crc_bits 8 v }
+    {
+        let k = (v % 256) as usize;
+        self.numbers[k] ^ (v >> 8)
+    }
 }

@@ -6,9 +6,13 @@ use Rattle.crc.specs.Pieces.{crc_feed}
 use Rattle.crc.proofs.Doubling.{applied, doubled, lane-doubled}
 use Rattle.crc.proofs.pieces.crc_feed.Goals as goal
 
-pub over_bytes-requires : goal.over_bytes-requires
-unfolding is_table crc_bits advanced picked applied doubled
-over_bytes-requires c = record { table_value = refl; op_value = lane-doubled refl }
+pub invariant_of-table : goal.invariant_of-table
+unfolding is_table crc_bits
+invariant_of-table c = record { right = refl }
+
+pub invariant_of-op : goal.invariant_of-op
+unfolding crc_bits advanced picked applied doubled
+invariant_of-op c = record { right = lane-doubled refl }
 
 pub returns : goal.returns
 unfolding crc_feed

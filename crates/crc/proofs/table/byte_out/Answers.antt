@@ -1,6 +1,0 @@
--- `crc::table::byte_out` meets its contract. Assumes nothing.
-use Rattle.crc.proofs.Polynomial.{by-table}
-use Rattle.crc.proofs.table.byte_out.Goals as goal
-
-pub returns : goal.returns
-returns c = let a = c.args in by-table a.table.now a.v c.requires
