@@ -46,12 +46,6 @@ returns-then-not-takes c =
     no-fit a.cart.now a.memory.now (i.valid (granted _ i.value c.if-not-is_record.false)) e a.tallies.now h f a.kept.now a.changed.now
     (denied _ (c.takes.ensures ∙ ap (λ (s : SaveType). taken (save_fit s (length f))) k) c.if-not-takes.true)
 
-pub load_valid-requires : goal.load_valid-requires
-load_valid-requires c =
-    let i = c.is_record.ensures in
-    let k = c.kind_in-kind.ensures in
-    record { valid = (i.valid (granted _ i.value c.if-not-is_record.false), c.if-memory-memory_size.false ∙ c.memory_size.ensures ∙ ap memory_size k); tallies_len = c.if-tallies-tally_count.false ∙ c.tally_count.ensures ∙ ap tally_count k }
-
 pub overflow_cast-kept : goal.overflow_cast-kept
 overflow_cast-kept c =
     omega (arith, ap length c.kept_part-part.ensures, kept-most c.kind_in-kind.result c.args.file.now)

@@ -30,12 +30,6 @@ returns-then-tallies-tally_count c =
     let h = c.tally_count.ensures ∙ ap tally_count k in
     load-16 a.cart.now a.memory.now (i.valid (granted _ i.value c.if-not-is_record.false)) e a.tallies.now (λ z. c.if-tallies-tally_count.true (z ∙ sym h)) a.file.now a.changed.now
 
-pub load_valid-requires : goal.load_valid-requires
-load_valid-requires c =
-    let i = c.is_record.ensures in
-    let k = c.kind_in-kind.ensures in
-    record { valid = (i.valid (granted _ i.value c.if-not-is_record.false), c.if-memory-memory_size.false ∙ c.memory_size.ensures ∙ ap memory_size k); tallies_len = c.if-tallies-tally_count.false ∙ c.tally_count.ensures ∙ ap tally_count k }
-
 pub returns : goal.returns
 returns c =
     let a = c.args in

@@ -4,10 +4,8 @@ use mathlib.Core.Bool.{Bool}
 use native.Mathlib.Omega.{arith}
 use lib.ListN.{length}
 use Rattle.kind.specs.declared.SaveType.{SaveType}
-use Rattle.kind.proofs.Sizes.{memory-small, whole-stretches}
 use Rattle.lists.specs.Lists.{bit}
 use Rattle.cart.specs.Calls.{large_after}
-use Rattle.c_record.specs.RecordBytes.{cart_of}
 use Rattle.c_record.proofs.FieldBytes.{large-byte}
 use Rattle.c_file_calls.proofs.FileCalls.{large-read, load-valid}
 use Rattle.c_file_calls.proofs.load_valid.Goals as goal
@@ -17,12 +15,6 @@ put_bit-requires c =
     let s = c in
     let r = s.args.cart.now in
     (omega arith, large-byte r s.requires.valid.0 ∙ ap bit (sym (large-read r)))
-
-pub apply-requires : goal.apply-requires
-apply-requires c =
-    let s = c in
-    let kind = (cart_of s.args.cart.now).kind in
-    record { tallied = omega (arith, s.requires.valid.1, s.requires.tallies_len, whole-stretches kind); fits = omega (arith, s.requires.valid.1, memory-small kind) }
 
 pub returns : goal.returns
 returns c =

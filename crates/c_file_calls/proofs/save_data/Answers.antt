@@ -1,15 +1,10 @@
 -- `c_file_calls::save_data` meets its contract. Assumes nothing.
 use mathlib.Core.Path.{sym, ap, ap₂, ◌∙◌}
 use mathlib.Core.List.{[]}
-use native.Mathlib.Omega.{arith}
-use lib.Dec.{eqb}
-use lib.ListN.{get_or}
-use lib.Seq.{length-take-le}
 use Rattle.lists.proofs.Bools.{denied, granted}
 use Rattle.kind.specs.Kind.{memory_size}
 use Rattle.cart.specs.Calls.{save_data, step}
 use Rattle.file_calls.specs.Files.{file_length}
-use Rattle.file_calls.proofs.Exports.{length-fits, length-small}
 use Rattle.c_record.specs.AtExit.{export_at}
 use Rattle.c_record.proofs.Calls.{no_record}
 use Rattle.c_file_calls.proofs.FileCalls.{large-read, export-no, no_room, export-yes}
@@ -40,25 +35,6 @@ returns-then-destination-n c =
     let e = n.if-memory-memory_size.false ∙ n.memory_size.ensures ∙ ap memory_size k in
     no_room r a.memory.now (i.valid (granted _ i.value q.if-not-is_record.false)) e a.destination.now a.length.now _
     (c.file_length-n.ensures ∙ ap₂ file_length k (large-read r)) c.if-destination-n.true
-
-pub slice_bounds-copy_file-end : goal.slice_bounds-copy_file-end
-slice_bounds-copy_file-end c =
-    let k = c in
-    let a = k.args in
-    sym (length-take-le _ a.memory.now (omega (arith, length-fits k.kind_in-kind.result (eqb (get_or a.cart.now 10 0) 1))))
-
-pub copy_file-requires : goal.copy_file-requires
-copy_file-requires c =
-    let k = c in
-    let a = k.args in
-    let large = eqb (get_or a.cart.now 10 0) 1 in
-    let l = length-take-le c.file_length-n.result a.memory.now (omega (arith, length-fits k.kind_in-kind.result large)) in
-    (omega (arith, l), omega (arith, l, length-small k.kind_in-kind.result large))
-
-pub overflow_cast-length : goal.overflow_cast-length
-overflow_cast-length c =
-    let k = c in
-    omega (arith, length-small k.kind_in-kind.result (eqb (get_or k.args.cart.now 10 0) 1))
 
 pub returns : goal.returns
 returns c =

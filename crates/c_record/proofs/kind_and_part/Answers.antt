@@ -1,7 +1,7 @@
 -- `c_record::kind_and_part` meets its contract. Assumes nothing.
 use mathlib.Core.Path.{sym}
 use native.Mathlib.Omega.{arith}
-use borrow.Author.Tests.{le-leb, lt-leb}
+use borrow.Author.Tests.{le-leb}
 use Rattle.kind.specs.Kind.{kind_of}
 use Rattle.part.specs.Part.{part_of, part_fits}
 use Rattle.c_record.proofs.PartNumbers.{usual-at, named, fits-at, fits_not}
@@ -11,9 +11,6 @@ pub returns-then-place-le5 : goal.returns-then-place-le5
 returns-then-place-le5 c =
     let a = c.args in
     rw (le-leb a.kind 5 (omega (arith, c.if-place-le5.true)), usual-at a.part a.kind c.if-place-le5.true)
-
-pub returns-then-kind-gt5 : goal.returns-then-kind-gt5
-returns-then-kind-gt5 c = rw (lt-leb _ 5 c.if-kind-gt5.true)
 
 pub returns-in-10 : goal.returns-in-10
 unfolding part_of part_fits kind_of

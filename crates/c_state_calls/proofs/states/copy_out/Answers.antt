@@ -1,11 +1,7 @@
 -- `c_state_calls::states::copy_out` meets its contract. Assumes nothing.
-use native.Mathlib.Omega.{arith}
-use lib.ListN.{get_or, length-set}
+use lib.ListN.{get_or}
 use Rattle.c_state_calls.proofs.StateCalls.{copied-out}
 use Rattle.c_state_calls.proofs.states.copy_out.Goals as goal
-
-pub bounds-bytes-19 : goal.bounds-bytes-19
-bounds-bytes-19 c = simp length-set (omega (arith, c.bytes-1.given, c.requires.1))
 
 pub returns : goal.returns
 returns c =

@@ -5,15 +5,12 @@ use Prim.Native.Nat.{ℕ}
 use Rattle.refusal.specs.Refusals.{refusal_number, number_of}
 use Rattle.refusal.proofs.Passed.{not-0}
 use native.Mathlib.Omega.{arith}
-use lib.Seq.{length-take-le}
 use Rattle.lists.proofs.Bools.{denied, granted}
 use Rattle.cart.specs.Calls.{restore}
-use Rattle.chip_record.proofs.Layouts.{taken}
 use Rattle.c_record.specs.AtExit.{plain}
 use Rattle.c_record.proofs.RecordBytes.{are-bytes}
 use Rattle.c_record.proofs.Calls.{no_record}
 use Rattle.c_state_calls.proofs.StateCalls.{restore-no, restore-yes}
-use borrow.Author.Rules.{rules}
 use Rattle.c_state_calls.proofs.states.restore_chip_state.Goals as goal
 
 pub returns-then-not-is_record : goal.returns-then-not-is_record
@@ -29,16 +26,6 @@ returns-in-Err c =
     λ m.
     ap (λ (n : ℕ). (n, a.cart.now, m)) (c.from.ensures ∙ c.number.ensures)
     ∙ restore-no a.cart.now (i.valid (granted _ i.value c.if-not-is_record.false)) a.bytes.now m (refusal_number e) (sym (ap number_of c.in-Err.is) ∙ c.state_questions.ensures) (not-0 e)
-
-pub slice_bounds-copy_in-end-2 : goal.slice_bounds-copy_in-end-2
-slice_bounds-copy_in-end-2 c =
-    let b = c.args.bytes.now in
-    sym (length-take-le 18 b (taken b (sym c.state_questions.ensures ∙ ap number_of c.in_default.is)).long)
-
-pub copy_in-requires : goal.copy_in-requires
-copy_in-requires c =
-    let b = c.args.bytes.now in
-    (search rules, length-take-le 18 b (taken b (sym c.state_questions.ensures ∙ ap number_of c.in_default.is)).long)
 
 pub returns : goal.returns
 returns c =

@@ -1,9 +1,7 @@
 -- `c_state_calls::values::first_in_use` meets its contract. Assumes nothing.
 use mathlib.Core.Path.{sym, ap, ◌∙◌}
-use native.Mathlib.Omega.{arith}
 use Rattle.lists.proofs.Bools.{denied, granted}
 use Rattle.kind.specs.Kind.{tally_count}
-use Rattle.kind.proofs.Sizes.{tallies-few}
 use Rattle.cart.specs.declared.Cartridge.{Cartridge}
 use Rattle.cart.specs.Calls.{in_use}
 use Rattle.c_state_calls.proofs.ValueCalls.{asked-no, in-use-16, in-use-yes}
@@ -20,9 +18,6 @@ returns-then-tallies-tally_count c =
     let i = c.is_record.ensures in
     let e = c.tally_count.ensures ∙ ap tally_count c.kind_in.ensures in
     in-use-16 a.cart.now (i.valid (granted _ i.value c.if-not-is_record.false)) a.tallies.now a.stretch.now (λ z. c.if-tallies-tally_count.true (z ∙ sym e))
-
-pub first_in_use-requires : goal.first_in_use-requires
-first_in_use-requires c = omega (arith, c.if-tallies-tally_count.false, c.tally_count.ensures, tallies-few c.kind_in.result)
 
 pub returns : goal.returns
 returns c =

@@ -1,10 +1,8 @@
 -- `c_state_calls::values::is_blank` meets its contract. Assumes nothing.
 use mathlib.Core.Path.{sym, ap, ◌∙◌}
-use native.Mathlib.Omega.{arith}
 use Rattle.lists.proofs.Bools.{denied, granted}
 use Rattle.lists.specs.Lists.{bit}
 use Rattle.kind.specs.Kind.{tally_count}
-use Rattle.kind.proofs.Sizes.{tallies-few}
 use Rattle.cart.specs.declared.Cartridge.{Cartridge}
 use Rattle.cart.specs.Calls.{is_blank}
 use Rattle.c_state_calls.proofs.ValueCalls.{asked-no, blank-16, blank-yes}
@@ -21,9 +19,6 @@ returns-then-tallies-tally_count c =
     let i = c.is_record.ensures in
     let e = c.tally_count.ensures ∙ ap tally_count c.kind_in.ensures in
     blank-16 a.cart.now (i.valid (granted _ i.value c.if-not-is_record.false)) a.tallies.now a.blank.now (λ z. c.if-tallies-tally_count.true (z ∙ sym e))
-
-pub is_blank-requires : goal.is_blank-requires
-is_blank-requires c = omega (arith, c.if-tallies-tally_count.false, c.tally_count.ensures, tallies-few c.kind_in.result)
 
 pub returns : goal.returns
 returns c =

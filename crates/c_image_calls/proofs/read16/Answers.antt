@@ -1,8 +1,0 @@
--- `c_image_calls::read16` meets its contract. Assumes nothing.
-use Rattle.std.proofs.Common.{ap, ◌∙◌}
-use Rattle.image.specs.Image.{Answer}
-use Rattle.out_params.specs.Places.{answered_at}
-use Rattle.c_image_calls.proofs.read16.Goals as goal
-
-pub returns : goal.returns
-returns c = c.tell.ensures ∙ ap (λ (a : Answer). answered_at a c.args.value.now) c.read16.ensures
