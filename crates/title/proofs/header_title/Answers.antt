@@ -1,8 +1,6 @@
 -- `title::header_title` meets its contract. Assumes nothing.
 use native.Mathlib.Omega.{arith}
-use mathlib.Core.Path.{sym}
 use lib.ListN.{length-take}
-use lib.Seq.{length-take-le}
 use Rattle.title.proofs.Answers.{title-short, title-text, title-13, title-done}
 use Rattle.title.proofs.header_title.Goals as goal
 
@@ -16,18 +14,6 @@ returns-then-destination-len c =
     let t = c.trim-len in
     title-13 a.image.now a.destination.now s.new.out t.result c.if-image-lt192.false (omega (arith, s.ensures.1, t.ensures.1, length-take s.result s.new.out))
     (title-text a.image.now s.new.out s.result t.result s.ensures.0 t.ensures.1 t.ensures.0) c.if-destination-len.true
-
-pub slice_bounds-copy-end : goal.slice_bounds-copy-end
-slice_bounds-copy-end c =
-    let s = c.replace-n in
-    let t = c.trim-len in
-    sym (length-take-le t.result s.new.out (omega (arith, s.ensures.1, t.ensures.1, length-take s.result s.new.out)))
-
-pub copy-requires : goal.copy-requires
-copy-requires c =
-    let s = c.replace-n in
-    let t = c.trim-len in
-    omega (arith, length-take-le t.result s.new.out (omega (arith, s.ensures.1, t.ensures.1, length-take s.result s.new.out)))
 
 pub returns : goal.returns
 returns c =

@@ -1,21 +1,9 @@
 -- `title::replace` meets its contract. The invariant: what is written, with the replacement of what is left, is the whole. Assumes nothing.
 use Rattle.title.proofs.Texts.{used-least, used-most, len-most, behind-length, turn, none_left}
-use mathlib.Core.Path.{refl, ◌∙◌}
+use mathlib.Core.Path.{◌∙◌}
 use native.Mathlib.Omega.{arith}
 use lib.ListN.{take}
 use Rattle.title.proofs.replace.Goals as goal
-
-pub loop-t-init : goal.loop-t-init
-loop-t-init c = (omega arith, refl, refl)
-
-pub show-shown-requires : goal.show-shown-requires
-show-shown-requires c = (omega arith, omega arith)
-
-pub overflow_add-n : goal.overflow_add-n
-overflow_add-n c =
-    let b = c.loop-t in
-    let s = c.show-shown in
-    omega (arith, used-most b.out b.t.now b.n c.loop-t-test.true b.invariant.0 s.result s.new.out s.ensures, len-most b.out b.t.now b.n c.loop-t-test.true b.invariant.0 s.result s.new.out s.ensures)
 
 pub slice_bounds-t-count : goal.slice_bounds-t-count
 slice_bounds-t-count c =
@@ -44,9 +32,6 @@ loop-t-preserved c =
     let l = len-most b.out b.t.now b.n h b.invariant.0 s.result s.new.out s.ensures in
     let k = behind-length b.out b.t.now b.n h b.invariant.0 s.result s.new.out s.ensures in
     (omega (arith, m, l, k), k ∙ b.invariant.1, turn b.out b.t.now b.n h b.invariant.0 s.result s.new.out s.ensures c.args.s.now b.invariant.2)
-
-pub shape_of-out : goal.shape_of-out
-shape_of-out c = c.loop-t.invariant.1
 
 pub returns : goal.returns
 returns c = let b = c.loop-t in (none_left (take b.n b.out) b.t.now c.loop-t-test.false ∙ b.invariant.2, omega arith)
