@@ -4,11 +4,10 @@ use Rattle.refusal.proofs.Passed.{not-0}
 use Rattle.cart.proofs.Replies.{passed-reply}
 use Rattle.cart.specs.Replies.{Reply}
 use Rattle.cart.specs.Replies.{replied}
-use Rattle.cart.proofs.Replies.{step-no, step_kept, door-yes}
+use Rattle.cart.proofs.Replies.{step-no, step_kept}
 use mathlib.Core.Path.{refl, sym, ap, ◌∙◌}
 use mathlib.Core.List.{[]}
 use Prim.Native.Nat.{ℕ}
-use lib.ListN.{length}
 use Rattle.cart.specs.Calls.{save_read, questions, accepted}
 use Rattle.cart.specs.Counts.{store_of}
 use Rattle.cart.specs.Replies.{state, done}
@@ -20,9 +19,6 @@ returns-in_err-door c =
     let a = c.args in
     ap (λ (r : Reply). (r, a.memory.now)) (passed-reply a.cart c.from_residual.result c.in_err-door.field-0.0 c.from_residual.ensures.1)
     ∙ ap replied (sym (step-no (save_read a.address) [] (state a.cart a.memory.now) (refusal_number c.in_err-door.field-0.0) c.in_err-door.ensures (not-0 c.in_err-door.field-0.0)))
-
-pub read_save-requires : goal.read_save-requires
-read_save-requires c = let a = c.args in (door-yes a.cart (length a.memory.now) 0 c.in_ok-door.ensures refl).1
 
 pub returns : goal.returns
 unfolding questions accepted store_of

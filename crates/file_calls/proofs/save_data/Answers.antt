@@ -10,13 +10,12 @@ use Rattle.cart.proofs.Replies.{passed-reply}
 use Rattle.cart.specs.Counts.{store_of}
 use Rattle.cart.specs.Replies.{Reply}
 use Rattle.lists.specs.Questions.{◌else◌}
-use lib.Seq.{length-take-le}
 use borrow.Author.Tests.{le-leb, lt-leb}
 use Rattle.lists.specs.Lists.{into}
 use Rattle.cart.specs.Calls.{save_data, file_of, holds, questions, accepted}
 use Rattle.cart.specs.Replies.{state, done, export_replied}
 use Rattle.cart.proofs.Replies.{step-no, step_kept, door-no, door-yes, door-more}
-use Rattle.file_calls.proofs.Exports.{length-fits, length-small, holds-is, exported-is}
+use Rattle.file_calls.proofs.Exports.{holds-is, exported-is}
 use Rattle.file_calls.proofs.save_data.Goals as goal
 
 pub returns-in_err-door : goal.returns-in_err-door
@@ -36,22 +35,6 @@ returns-then-destination-n c =
     let e = door-more a.cart (length a.memory.now) (holds (file_of a.cart.kind s) a.destination.now else 13 ∷ []) 0 c.in_ok-door.ensures refl in
     let h = holds-is s a.destination.now a.cart.kind y.1 in
     ap export_replied (sym (step-no save_data a.destination.now s 13 (sym (e ∙ rw (h, ← c.file_length-n.ensures, lt-leb _ _ c.if-destination-n.true))) (λ z. omega arith)))
-
-pub slice_bounds-copy_file-end : goal.slice_bounds-copy_file-end
-slice_bounds-copy_file-end c =
-    let a = c.args in
-    let y = door-yes a.cart (length a.memory.now) 0 c.in_ok-door.ensures refl in
-    sym (length-take-le c.file_length-n.result a.memory.now (omega (arith, c.file_length-n.ensures, y.1, length-fits a.cart.kind a.cart.chip.eeprom.large)))
-
-pub copy_file-requires : goal.copy_file-requires
-copy_file-requires c =
-    let a = c.args in
-    let y = door-yes a.cart (length a.memory.now) 0 c.in_ok-door.ensures refl in
-    let l = length-take-le c.file_length-n.result a.memory.now (omega (arith, c.file_length-n.ensures, y.1, length-fits a.cart.kind a.cart.chip.eeprom.large)) in
-    (omega (arith, l, c.if-destination-n.false), omega (arith, l, c.file_length-n.ensures, length-small a.cart.kind a.cart.chip.eeprom.large))
-
-pub overflow_cast-n : goal.overflow_cast-n
-overflow_cast-n c = let a = c.args in omega (arith, c.file_length-n.ensures, length-small a.cart.kind a.cart.chip.eeprom.large)
 
 pub returns : goal.returns
 unfolding questions accepted store_of

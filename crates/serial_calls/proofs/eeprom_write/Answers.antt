@@ -6,7 +6,7 @@ use Rattle.refusal.proofs.Passed.{not-0}
 use Rattle.cart.proofs.Replies.{passed-reply}
 use Rattle.lists.specs.Questions.{◌else◌}
 use Rattle.kind.specs.Kind.{uses_eeprom}
-use Rattle.cart.proofs.Replies.{step-no, step-yes, store-door-no, store-door-yes, store-door-more}
+use Rattle.cart.proofs.Replies.{step-no, step-yes, store-door-no, store-door-more}
 use native.Mathlib.Omega.{arith}
 use lib.ListN.{length}
 use Rattle.cart.specs.Replies.{Reply}
@@ -35,12 +35,6 @@ returns-then-not-uses_eeprom c =
     let s = tallied a.cart a.memory.now a.tallies.now in
     let e = store-door-more a.cart n k (uses_eeprom a.cart.kind else 4 ∷ []) 0 c.in_ok-store_door.ensures refl in
     ap store_replied (sym (step-no (eeprom_write a.value) [] s 4 (sym (e ∙ rw (denied _ c.uses_eeprom.ensures c.if-not-uses_eeprom.true))) (λ z. omega arith)))
-
-pub bit_in-requires : goal.bit_in-requires
-bit_in-requires c =
-    let a = c.args in
-    let y = store-door-yes a.cart (length a.memory.now) (length a.tallies.now) 0 c.in_ok-store_door.ensures refl in
-    (y.0, granted _ c.uses_eeprom.ensures c.if-not-uses_eeprom.false, y.1, y.2)
 
 pub returns : goal.returns
 unfolding questions

@@ -1,9 +1,7 @@
 -- `state_calls::is_blank` meets its contract. Assumes nothing.
-use Rattle.std.proofs.Common.{arith, ap, ◌∙◌}
+use Rattle.std.proofs.Common.{ap, ◌∙◌}
 use Rattle.lists.specs.Lists.{bit}
 use Rattle.counts.specs.Tallies.{blank}
-use Rattle.kind.proofs.Sizes.{tallies-few}
-use Rattle.state_calls.proofs.Passed.{tallies-right}
 use Rattle.image.proofs.Answers.{answered-no, answered-yes}
 use Rattle.cart.specs.Calls.{is_blank, tally_questions}
 use Rattle.state_calls.proofs.is_blank.Goals as goal
@@ -11,9 +9,6 @@ use Rattle.state_calls.proofs.is_blank.Goals as goal
 pub returns-in_err-ask_tallies : goal.returns-in_err-ask_tallies
 unfolding is_blank
 returns-in_err-ask_tallies c = answered-no (tally_questions c.args.cart c.args.tallies.now) (bit (blank c.args.tallies.now)) c.from_residual.result c.in_err-ask_tallies.field-0.0 c.from_residual.ensures.1 c.in_err-ask_tallies.ensures
-
-pub is_blank-requires : goal.is_blank-requires
-is_blank-requires c = omega (arith, tallies-right c.args.cart c.args.tallies.now c.in_ok-ask_tallies.ensures, tallies-few c.args.cart.kind)
 
 pub returns : goal.returns
 unfolding is_blank

@@ -10,7 +10,6 @@ use Rattle.cart.specs.Record.{outcome}
 use Rattle.cart.specs.Calls.{restore_questions, restore}
 use Rattle.cart.specs.Replies.{state, cart_with, done, replied}
 use Rattle.chip_record.specs.States.{state_questions}
-use Rattle.chip_record.proofs.Layouts.{taken}
 use Rattle.cart.proofs.Restore.{restoring}
 use Rattle.cart.proofs.Replies.{passed-reply, record-no, record-yes, guarded-no, guarded-yes}
 use Rattle.state_calls.proofs.restore_chip_state.Goals as goal
@@ -38,9 +37,6 @@ returns-in_err-state_questions c =
     let s = state a.cart m in
     ap (λ (r : Reply). (r, m)) (passed-reply a.cart c.from_residual-in_err-state_questions.result e c.from_residual-in_err-state_questions.ensures.1)
     ∙ ap replied (sym (guarded-no (restore_questions b s) [] s (outcome [] (restoring b s) []) (refusal_number e) (rw y c.in_err-state_questions.ensures) (not-0 e)))
-
-pub chip_in-requires : goal.chip_in-requires
-chip_in-requires c = (taken c.args.bytes.now (sym c.in_ok-state_questions.ensures)).long
 
 pub returns : goal.returns
 unfolding restore

@@ -2,26 +2,12 @@
 use mathlib.Core.Path.{sym, ap, ◌∙◌}
 use Rattle.refusal.proofs.Passed.{passed, not-0}
 use Rattle.refusal.specs.Refusals.{number_of}
-use native.Mathlib.Omega.{arith}
-use lib.Seq.{length-take-le}
-use borrow.Author.Tests.{ne_eqb, le-leb, lt-leb}
+use borrow.Author.Tests.{le-leb, lt-leb}
 use Rattle.chip_record.proofs.Layouts.{old-asked, new-asked, new-18}
 use Rattle.chip_record.proofs.states.state_questions.Goals as goal
 
 pub returns-then-b-eq-CHIP_SIZE : goal.returns-then-b-eq-CHIP_SIZE
 returns-then-b-eq-CHIP_SIZE c = old-asked c.args.b.now _ c.if-b-eq-CHIP_SIZE.true c.field_questions.ensures
-
-pub returns-then-b-ne-STATE_SIZE : goal.returns-then-b-ne-STATE_SIZE
-returns-then-b-ne-STATE_SIZE c = rw (ne_eqb _ _ c.if-b-eq-CHIP_SIZE.false, ne_eqb _ _ c.if-b-ne-STATE_SIZE.true)
-
-pub returns-then-b-ne-LAYOUT_2 : goal.returns-then-b-ne-LAYOUT_2
-returns-then-b-ne-LAYOUT_2 c = rw (c.if-b-ne-STATE_SIZE.false, ne_eqb _ _ c.if-b-ne-LAYOUT_2.true)
-
-pub slice_bounds-field_questions-end : goal.slice_bounds-field_questions-end
-slice_bounds-field_questions-end c = sym (length-take-le 18 c.args.b.now (omega (arith, c.if-b-ne-STATE_SIZE.false)))
-
-pub field_questions-requires-2 : goal.field_questions-requires-2
-field_questions-requires-2 c = length-take-le 18 c.args.b.now (omega (arith, c.if-b-ne-STATE_SIZE.false))
 
 pub returns-in_err-field_questions : goal.returns-in_err-field_questions
 returns-in_err-field_questions c =
