@@ -15,11 +15,6 @@ use Rattle.cart.proofs.Stretches.{file-left-apart, bytes-left-apart}
 use Rattle.cut_call.proofs.Cuts.{bytes-or, value-fits, reloads, bytes-are}
 use Rattle.cut_call.proofs.cut.Goals as goal
 
-pub slice_bounds-save_data-end-2 : goal.slice_bounds-save_data-end-2
-slice_bounds-save_data-end-2 c =
-    let s = c in
-    sym (length-take-le _ s.args.scratch.now s.requires.memory_in_bounds)
-
 pub slice_bounds-resume-end : goal.slice_bounds-resume-end
 slice_bounds-resume-end c =
     let d = c in
