@@ -1,7 +1,6 @@
 use mathlib.Core.Path.{refl, sym, ap, ◌∙◌}
 use native.Mathlib.Omega.{arith}
 use lib.ListN.{replicate}
-use lib.Seq.{length-take-le}
 use Rattle.kind.proofs.Sizes.{memory-small, tallies-few}
 use Rattle.memory.specs.Memory.{erased}
 use Rattle.frames.specs.Frames.{FirstLine}
@@ -11,24 +10,6 @@ use Rattle.carttrace_lib.specs.Trace.{fresh_kind}
 use Rattle.carttrace_lib.specs.Session.{buffers, session_with, begun, told}
 use Rattle.carttrace_lib.proofs.Heard.{tells, new-front}
 use Rattle.carttrace_lib.proofs.characters.begin.Goals as goal
-
-pub slice_bounds-blank-end : goal.slice_bounds-blank-end
-slice_bounds-blank-end c = omega (arith, c.memory_size-n.ensures, memory-small c.in-Some.kind, c.requires.in_bounds)
-
-pub slice_bounds-blank-end-in-Some : goal.slice_bounds-blank-end-in-Some
-slice_bounds-blank-end-in-Some c = sym (length-take-le _ c.args.memory.now (omega (arith, c.memory_size-n.ensures, memory-small c.in-Some.kind, c.requires.in_bounds)))
-
-pub slice_bounds-blank-end-in-Some-2 : goal.slice_bounds-blank-end-in-Some-2
-slice_bounds-blank-end-in-Some-2 c = omega (arith, c.tally_count-k.ensures, tallies-few c.in-Some.kind, c.requires.in_bounds_2)
-
-pub slice_bounds-blank-end-in-Some-3 : goal.slice_bounds-blank-end-in-Some-3
-slice_bounds-blank-end-in-Some-3 c = sym (length-take-le _ c.args.tallies.now (omega (arith, c.tally_count-k.ensures, tallies-few c.in-Some.kind, c.requires.in_bounds_2)))
-
-pub print_status-requires : goal.print_status-requires
-print_status-requires c = omega (arith, c.requires.longest_line_in_bounds)
-
-pub shape_of-memory : goal.shape_of-memory
-shape_of-memory c = c.memory-1.given.1
 
 pub returns-in-Some : goal.returns-in-Some
 unfolding begun fresh_kind

@@ -1,27 +1,12 @@
-use mathlib.Core.Path.{sym, ◌∙◌}
+use mathlib.Core.Path.{◌∙◌}
 use mathlib.Core.List.{◌++◌}
-use native.Mathlib.Omega.{arith}
 use lib.ListN.{take, drop}
-use lib.Seq.{length-take-le}
-use Rattle.kind.proofs.Sizes.{memory-small, tallies-few}
 use Rattle.cart.specs.Replies.{tallied}
 use Rattle.carttrace_lib.specs.declared.Stage.TheVariants.{Playing}
 use Rattle.carttrace_lib.specs.Trace.{play, shown}
 use Rattle.carttrace_lib.specs.Session.{buffers, session_with, continued}
 use Rattle.carttrace_lib.proofs.Heard.{tells}
 use Rattle.carttrace_lib.proofs.characters.go_on.Goals as goal
-
-pub slice_bounds-play-end : goal.slice_bounds-play-end
-slice_bounds-play-end c = omega (arith, c.memory_size-n.ensures, memory-small c.args.session.cart.kind, c.requires.in_bounds)
-
-pub slice_bounds-play-end-2 : goal.slice_bounds-play-end-2
-slice_bounds-play-end-2 c = sym (length-take-le _ c.args.memory.now (omega (arith, c.memory_size-n.ensures, memory-small c.args.session.cart.kind, c.requires.in_bounds)))
-
-pub slice_bounds-play-end-3 : goal.slice_bounds-play-end-3
-slice_bounds-play-end-3 c = omega (arith, c.tally_count-k.ensures, tallies-few c.args.session.cart.kind, c.requires.in_bounds_2)
-
-pub slice_bounds-play-end-4 : goal.slice_bounds-play-end-4
-slice_bounds-play-end-4 c = sym (length-take-le _ c.args.tallies.now (omega (arith, c.tally_count-k.ensures, tallies-few c.args.session.cart.kind, c.requires.in_bounds_2)))
 
 pub returns : goal.returns
 unfolding continued

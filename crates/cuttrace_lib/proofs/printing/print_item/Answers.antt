@@ -1,13 +1,6 @@
 use borrow.Enum.Refused.{opened}
-use mathlib.Core.Path.{ap, ◌∙◌}
-use Rattle.call_list.specs.Items.{item_room}
 use Rattle.cuttrace_lib.proofs.Answers.{shows, item-bad, item-state, item-other}
 use Rattle.cuttrace_lib.proofs.printing.print_item.Goals as goal
-
-pub print_state-requires : goal.print_state-requires
-print_state-requires c =
-    let p = c.requires in
-    record { answer_len = p.answer_len ∙ ap item_room c.in-ChipState.is; answer_in_bounds = p.answer_in_bounds }
 
 pub returns-in-Bad : goal.returns-in-Bad
 returns-in-Bad c =

@@ -1,10 +1,6 @@
 use mathlib.Core.Path.{sym, ◌∙◌}
-use lib.Seq.{length-take-le}
 use Rattle.cuttrace_lib.proofs.Traces.{settled-said, bad-ended, bad-unended}
 use Rattle.cuttrace_lib.proofs.whole.settled.Goals as goal
-
-pub slice_bounds-first_kind-end : goal.slice_bounds-first_kind-end
-slice_bounds-first_kind-end c = sym (length-take-le c.line_length-end.result c.args.text.now c.line_length-end.ensures.1)
 
 pub returns-in-Some : goal.returns-in-Some
 returns-in-Some c = sym (settled-said c.args.text.now c.line_length-end.result _ c.line_length-end.ensures.0 (sym c.in-Some.is ∙ c.first_kind.ensures))
