@@ -1,13 +1,15 @@
 // `eeprom_begin_dma`, `eeprom_write` and `eeprom_read` on the bytes of a record. In front of question 2 is the
 // quick test; a function `_any` is for every record. It is called last and at two places, so that the compiler
 // leaves it out of line and the quick way pays nothing for it.
-// Kept: each function answers the number of a refusal, which C is returned, and hands it on as it is.
+// A refusal becomes the number that C is returned before the last call ends, in `_any` and `write_valid`: made after it,
+// the number would cost the jump to it (a byte read of a named part took 1.2 times as long).
 
 #![tactic(auto)]
 
 ghost use Rattle.std.specs.Prelude.{◌≡◌, List, [], ℕ, ◌<◌, length};
 ghost use Rattle.memory.specs.Memory.{stored, with_count, stores, Tallied, Fits};
 ghost use Rattle.eeprom.specs.Eeprom.{turned};
+ghost use Rattle.refusal.specs.Refusals.{number_of};
 ghost use Rattle.c_record.specs.RecordBytes.{Valid};
 ghost use Rattle.c_record.specs.Fields.{with_serial};
 ghost use Rattle.c_record.specs.Calls.{announces, takes_bit, gives_bit};
@@ -17,19 +19,29 @@ use eeprom::{Drawn, Eeprom, EepromStep, Shifted};
 use memory::NO_FILE;
 use refusal::Refusal;
 
+// The number that C is returned.
+fn number_of(answer: Result<(), Refusal>) -> u32
+    ensures { result ≡ number_of answer }
+{
+    match answer {
+        Ok(()) => 0,
+        Err(refusal) => u32::from(refusal.number()),
+    }
+}
+
 // Takes no memory; the contract holds for any memory.
 #[tactic(auto, using(crate::proofs::SerialCalls::announcing))]
-fn dma_valid(cart: &mut RecordBytes, words: u32) -> u32
+fn dma_valid(cart: &mut RecordBytes, words: u32) -> Result<(), Refusal>
     requires { Valid cart.old }
-    ensures { (m : List ℕ) → (result, cart.new, m) ≡ announces words cart.old m }
+    ensures { (m : List ℕ) → (number_of result, cart.new, m) ≡ announces words cart.old m }
 {
     let e = c_record::eeprom_in(cart);
     if !eeprom::dma_allowed(words as usize, e) {
-        return Refusal::DmaTooLate as u32;
+        return Err(Refusal::DmaTooLate);
     }
     let next = eeprom::begin_dma(words as usize, e);
     c_record::put_width(cart, next.width, next.large);
-    0
+    Ok(())
 }
 
 #[tactic(auto, using(c_record::proofs::Calls::no_record))]
@@ -37,9 +49,9 @@ fn dma_any(cart: &mut RecordBytes, words: u32) -> u32
     ensures { (m : List ℕ) → (result, cart.new, m) ≡ announces words cart.old m }
 {
     if !c_record::is_record(cart) {
-        return Refusal::Record as u32;
+        return number_of(Err(Refusal::Record));
     }
-    dma_valid(cart, words)
+    number_of(dma_valid(cart, words))
 }
 
 pub fn eeprom_begin_dma(cart: &mut RecordBytes, words: u32) -> u32
@@ -51,7 +63,7 @@ pub fn eeprom_begin_dma(cart: &mut RecordBytes, words: u32) -> u32
     if !quick_tests::serial_usual(cart) {
         return dma_any(cart, words);
     }
-    dma_valid(cart, words)
+    number_of(dma_valid(cart, words))
 }
 
 // A bit that ends a phase. The record is updated first, so that nothing stays live across the store.
@@ -80,6 +92,43 @@ fn turn_in(
 }
 
 #[tactic(auto, using(crate::proofs::SerialCalls::bits_in))]
+fn take_bit(
+    cart: &mut RecordBytes,
+    memory: &mut [u8],
+    tallies: &mut [u16],
+    value: u16,
+    changed: &mut u32,
+) -> Result<(), Refusal>
+    requires { Valid cart.old }
+    ensures { (number_of result, cart.new, memory.new, tallies.new, changed.new)
+        ≡ takes_bit value cart.old memory.old
+        tallies.old changed.old }
+{
+    let kind = c_record::kind_in(cart);
+    if memory.len() != kind::memory_size(kind) {
+        return Err(Refusal::MemoryLength);
+    }
+    if tallies.len() != kind::tally_count(kind) {
+        return Err(Refusal::TallyCount);
+    }
+    if !kind::uses_eeprom(kind) {
+        return Err(Refusal::NoEeprom);
+    }
+    let b = (value % 2) as u64;
+    let e = c_record::eeprom_in(cart);
+    match eeprom::shift(e.phase, e.count, eeprom::w(e.width, e.large), e.acc, b) {
+        Shifted::More(acc, count) => {
+            c_record::put_shift(cart, count, acc);
+            *changed = 0;
+            Ok(())
+        }
+        Shifted::Full(acc) => {
+            *changed = turn_in(cart, memory, tallies, e, acc, b);
+            Ok(())
+        }
+    }
+}
+
 fn write_valid(
     cart: &mut RecordBytes,
     memory: &mut [u8],
@@ -92,29 +141,7 @@ fn write_valid(
         ≡ takes_bit value cart.old memory.old
         tallies.old changed.old }
 {
-    let kind = c_record::kind_in(cart);
-    if memory.len() != kind::memory_size(kind) {
-        return Refusal::MemoryLength as u32;
-    }
-    if tallies.len() != kind::tally_count(kind) {
-        return Refusal::TallyCount as u32;
-    }
-    if !kind::uses_eeprom(kind) {
-        return Refusal::NoEeprom as u32;
-    }
-    let b = (value % 2) as u64;
-    let e = c_record::eeprom_in(cart);
-    match eeprom::shift(e.phase, e.count, eeprom::w(e.width, e.large), e.acc, b) {
-        Shifted::More(acc, count) => {
-            c_record::put_shift(cart, count, acc);
-            *changed = 0;
-            0
-        }
-        Shifted::Full(acc) => {
-            *changed = turn_in(cart, memory, tallies, e, acc, b);
-            0
-        }
-    }
+    number_of(take_bit(cart, memory, tallies, value, changed))
 }
 
 #[tactic(auto, using(c_record::proofs::Calls::no_record))]
@@ -130,7 +157,7 @@ fn write_any(
         tallies.old changed.old }
 {
     if !c_record::is_record(cart) {
-        return Refusal::Record as u32;
+        return number_of(Err(Refusal::Record));
     }
     write_valid(cart, &mut memory[..], &mut tallies[..], value, changed)
 }
@@ -156,26 +183,26 @@ pub fn eeprom_write(
 }
 
 #[tactic(auto, using(crate::proofs::SerialCalls::bits_out))]
-fn read_valid(cart: &mut RecordBytes, memory: &[u8], bit: &mut u32) -> u32
+fn read_valid(cart: &mut RecordBytes, memory: &[u8], bit: &mut u32) -> Result<(), Refusal>
     requires { Valid cart.old }
-    ensures { (result, cart.new, memory.now, bit.new)
+    ensures { (number_of result, cart.new, memory.now, bit.new)
         ≡ gives_bit cart.old memory.now bit.old }
 {
     let kind = c_record::kind_in(cart);
     if memory.len() != kind::memory_size(kind) {
-        return Refusal::MemoryLength as u32;
+        return Err(Refusal::MemoryLength);
     }
     let e = c_record::eeprom_in(cart);
     *bit = eeprom::read_bit(kind::uses_eeprom(kind), e, memory) as u32;
     match eeprom::draw(e.phase, e.place) {
-        Drawn::Nothing => 0,
+        Drawn::Nothing => Ok(()),
         Drawn::Place(place) => {
             c_record::put_place(cart, place);
-            0
+            Ok(())
         }
         Drawn::Ended => {
             c_record::put_ended(cart);
-            0
+            Ok(())
         }
     }
 }
@@ -186,9 +213,9 @@ fn read_any(cart: &mut RecordBytes, memory: &[u8], bit: &mut u32) -> u32
         ≡ gives_bit cart.old memory.now bit.old }
 {
     if !c_record::is_record(cart) {
-        return Refusal::Record as u32;
+        return number_of(Err(Refusal::Record));
     }
-    read_valid(cart, &memory[..], bit)
+    number_of(read_valid(cart, &memory[..], bit))
 }
 
 pub fn eeprom_read(cart: &mut RecordBytes, memory: &[u8], bit: &mut u32) -> u32
@@ -201,5 +228,5 @@ pub fn eeprom_read(cart: &mut RecordBytes, memory: &[u8], bit: &mut u32) -> u32
     if !quick_tests::serial_usual(cart) {
         return read_any(cart, memory, bit);
     }
-    read_valid(cart, memory, bit)
+    number_of(read_valid(cart, memory, bit))
 }
