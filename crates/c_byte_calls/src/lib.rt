@@ -1,8 +1,7 @@
 // `save_read` and `save_write` on the bytes of a record. In front of question 2 is the quick test; a function
 // `_any` is for every record. It is called last and at two places, so that the compiler leaves it out of line and
 // the quick way pays nothing for it.
-// A refusal becomes the number that C is returned before the last call ends, in `_any` and `write_valid`: made after it,
-// the number would cost the jump to it (a byte read of a named part took 1.2 times as long).
+// Kept: `_any` and `write_valid` answer C's number; a Result turned after the call took up to 1.2 times as long.
 
 #![tactic(auto)]
 
