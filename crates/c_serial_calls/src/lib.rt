@@ -1,13 +1,13 @@
 // `eeprom_begin_dma`, `eeprom_write` and `eeprom_read` on the bytes of a record. In front of question 2 is the
-// quick test; a function `_any` is for every record. It is called last and at two places, so that the compiler
-// leaves it out of line and the quick way pays nothing for it.
-// Kept: each function answers the number of a refusal, which C is returned, and hands it on as it is.
+// quick test; a function `_any` is for every record. It is called at two places, so that the compiler leaves it out
+// of line.
 
 #![tactic(auto)]
 
 ghost use Rattle.std.specs.Prelude.{◌≡◌, List, [], ℕ, ◌<◌, length};
 ghost use Rattle.memory.specs.Memory.{stored, with_count, stores, Tallied, Fits};
 ghost use Rattle.eeprom.specs.Eeprom.{turned};
+ghost use Rattle.refusal.specs.Refusals.{number_of};
 ghost use Rattle.c_record.specs.RecordBytes.{Valid};
 ghost use Rattle.c_record.specs.Fields.{with_serial};
 ghost use Rattle.c_record.specs.Calls.{announces, takes_bit, gives_bit};
@@ -17,27 +17,37 @@ use eeprom::{Drawn, Eeprom, EepromStep, Shifted};
 use memory::NO_FILE;
 use refusal::Refusal;
 
+// The number that C is returned.
+fn number_of(answer: Result<(), Refusal>) -> u32
+    ensures { result ≡ number_of answer }
+{
+    match answer {
+        Ok(()) => 0,
+        Err(refusal) => u32::from(refusal.number()),
+    }
+}
+
 // Takes no memory; the contract holds for any memory.
 #[tactic(auto, using(crate::proofs::SerialCalls::announcing))]
-fn dma_valid(cart: &mut RecordBytes, words: u32) -> u32
+fn dma_valid(cart: &mut RecordBytes, words: u32) -> Result<(), Refusal>
     requires { Valid cart.old }
-    ensures { (m : List ℕ) → (result, cart.new, m) ≡ announces words cart.old m }
+    ensures { (m : List ℕ) → (number_of result, cart.new, m) ≡ announces words cart.old m }
 {
     let e = c_record::eeprom_in(cart);
     if !eeprom::dma_allowed(words as usize, e) {
-        return Refusal::DmaTooLate as u32;
+        return Err(Refusal::DmaTooLate);
     }
     let next = eeprom::begin_dma(words as usize, e);
     c_record::put_width(cart, next.width, next.large);
-    0
+    Ok(())
 }
 
 #[tactic(auto, using(c_record::proofs::Calls::no_record))]
-fn dma_any(cart: &mut RecordBytes, words: u32) -> u32
-    ensures { (m : List ℕ) → (result, cart.new, m) ≡ announces words cart.old m }
+fn dma_any(cart: &mut RecordBytes, words: u32) -> Result<(), Refusal>
+    ensures { (m : List ℕ) → (number_of result, cart.new, m) ≡ announces words cart.old m }
 {
     if !c_record::is_record(cart) {
-        return Refusal::Record as u32;
+        return Err(Refusal::Record);
     }
     dma_valid(cart, words)
 }
@@ -46,12 +56,12 @@ pub fn eeprom_begin_dma(cart: &mut RecordBytes, words: u32) -> u32
     ensures { (m : List ℕ) → (result, cart.new, m) ≡ announces words cart.old m }
 {
     if !quick_tests::known(cart) {
-        return dma_any(cart, words);
+        return number_of(dma_any(cart, words));
     }
     if !quick_tests::serial_usual(cart) {
-        return dma_any(cart, words);
+        return number_of(dma_any(cart, words));
     }
-    dma_valid(cart, words)
+    number_of(dma_valid(cart, words))
 }
 
 // A bit that ends a phase. The record is updated first, so that nothing stays live across the store.
@@ -86,21 +96,21 @@ fn write_valid(
     tallies: &mut [u16],
     value: u16,
     changed: &mut u32,
-) -> u32
+) -> Result<(), Refusal>
     requires { Valid cart.old }
-    ensures { (result, cart.new, memory.new, tallies.new, changed.new)
+    ensures { (number_of result, cart.new, memory.new, tallies.new, changed.new)
         ≡ takes_bit value cart.old memory.old
         tallies.old changed.old }
 {
     let kind = c_record::kind_in(cart);
     if memory.len() != kind::memory_size(kind) {
-        return Refusal::MemoryLength as u32;
+        return Err(Refusal::MemoryLength);
     }
     if tallies.len() != kind::tally_count(kind) {
-        return Refusal::TallyCount as u32;
+        return Err(Refusal::TallyCount);
     }
     if !kind::uses_eeprom(kind) {
-        return Refusal::NoEeprom as u32;
+        return Err(Refusal::NoEeprom);
     }
     let b = (value % 2) as u64;
     let e = c_record::eeprom_in(cart);
@@ -108,11 +118,11 @@ fn write_valid(
         Shifted::More(acc, count) => {
             c_record::put_shift(cart, count, acc);
             *changed = 0;
-            0
+            Ok(())
         }
         Shifted::Full(acc) => {
             *changed = turn_in(cart, memory, tallies, e, acc, b);
-            0
+            Ok(())
         }
     }
 }
@@ -124,13 +134,13 @@ fn write_any(
     tallies: &mut [u16],
     value: u16,
     changed: &mut u32,
-) -> u32
-    ensures { (result, cart.new, memory.new, tallies.new, changed.new)
+) -> Result<(), Refusal>
+    ensures { (number_of result, cart.new, memory.new, tallies.new, changed.new)
         ≡ takes_bit value cart.old memory.old
         tallies.old changed.old }
 {
     if !c_record::is_record(cart) {
-        return Refusal::Record as u32;
+        return Err(Refusal::Record);
     }
     write_valid(cart, &mut memory[..], &mut tallies[..], value, changed)
 }
@@ -147,46 +157,46 @@ pub fn eeprom_write(
         tallies.old changed.old }
 {
     if !quick_tests::known(cart) {
-        return write_any(cart, memory, tallies, value, changed);
+        return number_of(write_any(cart, memory, tallies, value, changed));
     }
     if !quick_tests::serial_usual(cart) {
-        return write_any(cart, memory, tallies, value, changed);
+        return number_of(write_any(cart, memory, tallies, value, changed));
     }
-    write_valid(cart, memory, tallies, value, changed)
+    number_of(write_valid(cart, memory, tallies, value, changed))
 }
 
 #[tactic(auto, using(crate::proofs::SerialCalls::bits_out))]
-fn read_valid(cart: &mut RecordBytes, memory: &[u8], bit: &mut u32) -> u32
+fn read_valid(cart: &mut RecordBytes, memory: &[u8], bit: &mut u32) -> Result<(), Refusal>
     requires { Valid cart.old }
-    ensures { (result, cart.new, memory.now, bit.new)
+    ensures { (number_of result, cart.new, memory.now, bit.new)
         ≡ gives_bit cart.old memory.now bit.old }
 {
     let kind = c_record::kind_in(cart);
     if memory.len() != kind::memory_size(kind) {
-        return Refusal::MemoryLength as u32;
+        return Err(Refusal::MemoryLength);
     }
     let e = c_record::eeprom_in(cart);
     *bit = eeprom::read_bit(kind::uses_eeprom(kind), e, memory) as u32;
     match eeprom::draw(e.phase, e.place) {
-        Drawn::Nothing => 0,
+        Drawn::Nothing => Ok(()),
         Drawn::Place(place) => {
             c_record::put_place(cart, place);
-            0
+            Ok(())
         }
         Drawn::Ended => {
             c_record::put_ended(cart);
-            0
+            Ok(())
         }
     }
 }
 
 #[tactic(auto, using(c_record::proofs::Calls::no_record))]
-fn read_any(cart: &mut RecordBytes, memory: &[u8], bit: &mut u32) -> u32
-    ensures { (result, cart.new, memory.now, bit.new)
+fn read_any(cart: &mut RecordBytes, memory: &[u8], bit: &mut u32) -> Result<(), Refusal>
+    ensures { (number_of result, cart.new, memory.now, bit.new)
         ≡ gives_bit cart.old memory.now bit.old }
 {
     if !c_record::is_record(cart) {
-        return Refusal::Record as u32;
+        return Err(Refusal::Record);
     }
     read_valid(cart, &memory[..], bit)
 }
@@ -196,10 +206,10 @@ pub fn eeprom_read(cart: &mut RecordBytes, memory: &[u8], bit: &mut u32) -> u32
         ≡ gives_bit cart.old memory.now bit.old }
 {
     if !quick_tests::known(cart) {
-        return read_any(cart, memory, bit);
+        return number_of(read_any(cart, memory, bit));
     }
     if !quick_tests::serial_usual(cart) {
-        return read_any(cart, memory, bit);
+        return number_of(read_any(cart, memory, bit));
     }
-    read_valid(cart, memory, bit)
+    number_of(read_valid(cart, memory, bit))
 }

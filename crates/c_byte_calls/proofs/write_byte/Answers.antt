@@ -1,4 +1,4 @@
--- `c_byte_calls::write_valid` meets its contract. Assumes nothing.
+-- `c_byte_calls::write_byte` meets its contract. Assumes nothing.
 use mathlib.Core.Path.{sym, ap, ap₂, ◌∙◌}
 use mathlib.Core.List.{List}
 use Prim.Native.Nat.{ℕ}
@@ -11,7 +11,7 @@ use Rattle.c_record.specs.RecordBytes.{cart_of}
 use Rattle.c_record.specs.Fields.{with_id}
 use Rattle.c_record.proofs.FieldBytes.{id-stays}
 use Rattle.c_byte_calls.proofs.ByteCalls.{tallies-of, write-yes, id-kept}
-use Rattle.c_byte_calls.proofs.write_valid.Goals as goal
+use Rattle.c_byte_calls.proofs.write_byte.Goals as goal
 
 pub returns-then-stores : goal.returns-then-stores
 returns-then-stores c =
