@@ -17,16 +17,6 @@ use memory::NO_FILE;
 use part::Part;
 use refusal::Refusal;
 
-// The number that C is returned.
-fn number_of(answer: Result<(), Refusal>) -> u32
-    ensures { result ≡ number_of answer }
-{
-    match answer {
-        Ok(()) => 0,
-        Err(refusal) => u32::from(refusal.number()),
-    }
-}
-
 // Two functions of one text: with the usual part the ID words are one table by the kind, and with both tables the
 // compiler would leave the function out of `save_read`.
 #[tactic(auto, using(crate::proofs::ByteCalls::reading))]
@@ -59,9 +49,9 @@ fn read_any(cart: &RecordBytes, memory: &[u8], address: u32, value: &mut u32) ->
         ≡ reads address cart.now memory.now value.old }
 {
     if !c_record::is_record(cart) {
-        return number_of(Err(Refusal::Record));
+        return out_params::status(Err(Refusal::Record));
     }
-    number_of(read_with::<false>(cart, &memory[..], address, value))
+    out_params::status(read_with::<false>(cart, &memory[..], address, value))
 }
 
 #[tactic(auto, using(quick_tests::proofs::QuickTests::known_usual))]
@@ -75,7 +65,7 @@ pub fn save_read(cart: &RecordBytes, memory: &[u8], address: u32, value: &mut u3
     if !quick_tests::bytes_usual(cart) {
         return read_any(cart, memory, address, value);
     }
-    number_of(read_with::<true>(cart, memory, address, value))
+    out_params::status(read_with::<true>(cart, memory, address, value))
 }
 
 // The record is updated first, so that nothing but the place stays live across an erase.
@@ -130,7 +120,7 @@ fn write_valid(
         ≡ writes address value cart.old memory.old
         tallies.old changed.old }
 {
-    number_of(write_byte(cart, memory, tallies, address, value, changed))
+    out_params::status(write_byte(cart, memory, tallies, address, value, changed))
 }
 
 #[tactic(auto, using(c_record::proofs::Calls::no_record))]
@@ -147,7 +137,7 @@ fn write_any(
         tallies.old changed.old }
 {
     if !c_record::is_record(cart) {
-        return number_of(Err(Refusal::Record));
+        return out_params::status(Err(Refusal::Record));
     }
     write_valid(
         cart,

@@ -17,16 +17,6 @@ use eeprom::{Drawn, Eeprom, EepromStep, Shifted};
 use memory::NO_FILE;
 use refusal::Refusal;
 
-// The number that C is returned.
-fn number_of(answer: Result<(), Refusal>) -> u32
-    ensures { result ≡ number_of answer }
-{
-    match answer {
-        Ok(()) => 0,
-        Err(refusal) => u32::from(refusal.number()),
-    }
-}
-
 // Takes no memory; the contract holds for any memory.
 #[tactic(auto, using(crate::proofs::SerialCalls::announcing))]
 fn dma_valid(cart: &mut RecordBytes, words: u32) -> Result<(), Refusal>
@@ -56,12 +46,12 @@ pub fn eeprom_begin_dma(cart: &mut RecordBytes, words: u32) -> u32
     ensures { (m : List ℕ) → (result, cart.new, m) ≡ announces words cart.old m }
 {
     if !quick_tests::known(cart) {
-        return number_of(dma_any(cart, words));
+        return out_params::status(dma_any(cart, words));
     }
     if !quick_tests::serial_usual(cart) {
-        return number_of(dma_any(cart, words));
+        return out_params::status(dma_any(cart, words));
     }
-    number_of(dma_valid(cart, words))
+    out_params::status(dma_valid(cart, words))
 }
 
 // A bit that ends a phase. The record is updated first, so that nothing stays live across the store.
@@ -157,12 +147,12 @@ pub fn eeprom_write(
         tallies.old changed.old }
 {
     if !quick_tests::known(cart) {
-        return number_of(write_any(cart, memory, tallies, value, changed));
+        return out_params::status(write_any(cart, memory, tallies, value, changed));
     }
     if !quick_tests::serial_usual(cart) {
-        return number_of(write_any(cart, memory, tallies, value, changed));
+        return out_params::status(write_any(cart, memory, tallies, value, changed));
     }
-    number_of(write_valid(cart, memory, tallies, value, changed))
+    out_params::status(write_valid(cart, memory, tallies, value, changed))
 }
 
 #[tactic(auto, using(crate::proofs::SerialCalls::bits_out))]
@@ -206,10 +196,10 @@ pub fn eeprom_read(cart: &mut RecordBytes, memory: &[u8], bit: &mut u32) -> u32
         ≡ gives_bit cart.old memory.now bit.old }
 {
     if !quick_tests::known(cart) {
-        return number_of(read_any(cart, memory, bit));
+        return out_params::status(read_any(cart, memory, bit));
     }
     if !quick_tests::serial_usual(cart) {
-        return number_of(read_any(cart, memory, bit));
+        return out_params::status(read_any(cart, memory, bit));
     }
-    number_of(read_valid(cart, memory, bit))
+    out_params::status(read_valid(cart, memory, bit))
 }
