@@ -5,11 +5,8 @@ use native.Mathlib.Omega.{arith}
 use lib.ListN.{length, drop}
 use Rattle.matcher.specs.declared.Matcher.{Matcher}
 use Rattle.matcher.specs.Reading.{reads, more}
-use Rattle.matcher.proofs.Reading.{more-none, read_one, read-end, read-stop}
+use Rattle.matcher.proofs.Reading.{read_one, read-end, read-stop}
 use Rattle.matcher.proofs.feeding.over_bytes.Goals as goal
-
-pub loop-count-init : goal.loop-count-init
-loop-count-init c = more-none _
 
 pub returns-then-now : goal.returns-then-now
 returns-then-now c =
