@@ -10,7 +10,7 @@ use Rattle.lists.proofs.Bools.{cases}
 use Rattle.hex_text.specs.Hex.{value_of}
 use Rattle.cart.specs.declared.Cartridge.{Cartridge}
 use Rattle.cart.specs.Record.{fresh_cart}
-use Rattle.frames.specs.Frames.{Line}
+use Rattle.frames.specs.declared.Line.{Line}
 use Rattle.frames.specs.Frames.{FirstLine}
 use Rattle.std.specs.Prelude.{Some, None}
 use Rattle.frames.specs.Frames.{first_in, first_line, empty_line, pushed, pushed_all, line_of}
@@ -24,19 +24,25 @@ use Rattle.carttrace_lib.proofs.Whole.{printed-more, took-end, took-char, push-m
 
 -- a line that can become no kind: it is not empty, is none, and stays so
 no-kind-full : (l : Line) → no_kind l ≡ true → is_empty l ≡ false
-no-kind-full None h = refl
-no-kind-full (Some d) h = let n = ltb-true 2 d.count h in ne_eqb d.count 0 (omega (arith, n))
+no-kind-full l h =
+    cases l.good
+    (λ e. let n = ltb-true 2 l.count (rw e at h) in rw (e, ne_eqb l.count 0 (omega (arith, n))))
+    (λ e. rw e)
 
 no-kind-none : (l : Line) → no_kind l ≡ true → first_in l ≡ None
-no-kind-none None h = refl
-no-kind-none (Some d) h = let n = ltb-true 2 d.count h in rw (ne_eqb d.count 2 (omega (arith, n)))
+no-kind-none l h =
+    cases l.good
+    (λ e. let n = ltb-true 2 l.count (rw e at h) in rw (e, ne_eqb l.count 2 (omega (arith, n))))
+    (λ e. rw e)
 
 no-kind-stays : (l : Line) (c : ℕ) → no_kind l ≡ true → no_kind (pushed l c) ≡ true
 unfolding pushed
-no-kind-stays None c h = refl
-no-kind-stays (Some d) c h =
-    let n = ltb-true 2 d.count h in
-    cases (ltb d.count 12 && ltb (value_of c) 16) (λ f. rw f (lt-ltb 2 (d.count + 1) (omega (arith, n)))) (λ f. rw f)
+no-kind-stays l c h =
+    cases l.good
+    (λ e.
+    let n = ltb-true 2 l.count (rw e at h) in
+    cases (ltb l.count 12 && ltb (value_of c) 16) (λ f. rw (e, f) (lt-ltb 2 (l.count + 1) (omega (arith, n)))) (λ f. rw (e, f)))
+    (λ e. rw e)
 
 -- the end of a bad line 1
 bad-ended : (l : Line) (cart : Cartridge) (m : Buffers) → no_kind l ≡ true → line_ended (session_with First l cart) m ≡ begun None (session_with First l cart) m

@@ -23,7 +23,7 @@ use Rattle.cart.specs.Replies.{tallied}
 use Rattle.cart.proofs.Sound.{Sound, sound-step, sound-kind}
 use Rattle.cart.proofs.Tallies.{Fit, fit-step, right-fit}
 use Rattle.counts.proofs.Retallied.{tallies-blank}
-use Rattle.frames.specs.Frames.{Line}
+use Rattle.frames.specs.declared.Line.{Line}
 use Rattle.frames.specs.declared.Frame.{Frame}
 use Rattle.frames.specs.declared.Frame.TheVariants.{SaveRead, SaveWrite, EepromRead, EepromWrite, BeginDma, TakeFlag, ChipState, Bad}
 use Rattle.frames.specs.Frames.{FirstLine}
@@ -63,9 +63,11 @@ took-char c s m e = rw e
 -- a line with a character is not empty
 push-full : (l : Line) (c : ℕ) → is_empty (pushed l c) ≡ false
 unfolding pushed
-push-full None c = refl
-push-full (Some d) c =
-    cases (ltb d.count 12 && ltb (value_of c) 16) (λ f. rw f (ne_eqb (d.count + 1) 0 (λ z. omega (arith, z)))) (λ f. rw f)
+push-full l c =
+    cases l.good
+    (λ e.
+    cases (ltb l.count 12 && ltb (value_of c) 16) (λ f. rw (e, f) (ne_eqb (l.count + 1) 0 (λ z. omega (arith, z)))) (λ f. rw (e, f)))
+    (λ e. rw e)
 
 stays-full : (l : Line) (text : List ℕ) → is_empty l ≡ false → is_empty (pushed_all l text) ≡ false
 unfolding pushed_all

@@ -1,5 +1,5 @@
 -- `carttrace` character by character, however the input is cut into pieces: the state after each, and what is printed.
-use Rattle.std.specs.Prelude.{Bool, true, false, cond, List, [], ◌∷◌, ◌++◌, ℕ, ltb, eqb, length, take, drop}
+use Rattle.std.specs.Prelude.{Bool, true, false, cond, ◌&&◌, List, [], ◌∷◌, ◌++◌, ℕ, ltb, eqb, length, take, drop}
 use Rattle.lists.specs.Lists.{into}
 use Rattle.kind.specs.declared.SaveType.{SaveType}
 use Rattle.kind.specs.declared.SaveType.TheVariants as save_type
@@ -8,7 +8,7 @@ use Rattle.part.specs.declared.Part.TheVariants.{Usual}
 use Rattle.cart.specs.declared.Cartridge.{Cartridge}
 use Rattle.cart.specs.Record.{State, fresh_cart}
 use Rattle.cart.specs.Replies.{tallied}
-use Rattle.frames.specs.Frames.{Line}
+use Rattle.frames.specs.declared.Line.{Line}
 use Rattle.frames.specs.Frames.{FirstLine}
 use Rattle.std.specs.Prelude.{Some, None}
 use Rattle.frames.specs.Frames.{empty_line, pushed, frame_in, first_in, line_of}
@@ -81,16 +81,14 @@ took_all (c ∷ input) s m =
 
 -- the input's end: a last line without a line feed
 abbrev pub is_empty : Line → Bool
-is_empty None = false
-is_empty (Some d) = eqb d.count 0
+is_empty l = l.good && eqb l.count 0
 
 unfoldable pub finished : Session → Buffers → Heard
 finished s m = cond (is_empty s.line) (heard [] s m) (line_ended s m)
 
 -- "and ends if that is line 1": line 1 was bad, or has characters that no kind begins with
 abbrev pub no_kind : Line → Bool
-no_kind None = true
-no_kind (Some d) = ltb 2 d.count
+no_kind l = cond l.good (ltb 2 l.count) true
 
 unfoldable pub over : Session → Bool
 over s = by_stage s.stage (no_kind s.line) false true

@@ -184,14 +184,14 @@ pub fn finish(session: Session, memory: &mut [u8], tallies: &mut [u16], out: &mu
 fn is_empty(l: Line) -> bool
     ensures { result ≡ is_empty l }
 {
-    l.is_some_and(|d| d.count == 0)
+    l.good && l.count == 0
 }
 
 // A line so far that can become no kind.
 fn no_kind(l: Line) -> bool
     ensures { result ≡ no_kind l }
 {
-    l.is_none_or(|d| 2 < d.count)
+    !l.good || 2 < l.count
 }
 
 // Whether line 1 is bad, so that nothing that follows changes what is printed. A caller then reads no further.

@@ -11,7 +11,7 @@ use lib.Seq.{drop-cons, drop-drop}
 use borrow.Author.Tests.{eq-eqb, ne_eqb}
 use Rattle.lists.proofs.Bools.{cases}
 use Rattle.lists.proofs.Parts.{rest}
-use Rattle.frames.specs.Frames.{Line}
+use Rattle.frames.specs.declared.Line.{Line}
 use Rattle.frames.specs.Frames.{pushed, pushed_all}
 use Rattle.carttrace_lib.specs.Trace.{lines_from}
 use Rattle.cuttrace_lib.specs.Lines.{IsLineEnd, line_length}

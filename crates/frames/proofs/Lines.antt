@@ -1,6 +1,6 @@
 -- A line taken in character by character says what the whole line says. Assumes nothing.
 use mathlib.Core.Path.{◌≡◌, refl, sym, ap, ◌∙◌}
-use mathlib.Core.Bool.{false, ◌&&◌}
+use mathlib.Core.Bool.{true, false, ◌&&◌}
 use mathlib.Core.List.{List, [], ◌∷◌}
 use Prim.Native.Nat.{ℕ, ◌+◌, ◌*◌, ◌%◌, ◌^◌, ◌≤◌, ◌<◌}
 use native.Mathlib.Nat.{mod-eq_of_lt, add-zero, zero-add}
@@ -11,16 +11,16 @@ use lib.Pow.{pow-add, pow_mono}
 use borrow.Author.Tests.{ltb-true, ltb-false, lt-ltb, ne_eqb}
 use Rattle.lists.proofs.Bools.{cases}
 use Rattle.hex_text.specs.Hex.{value_of}
-use Rattle.frames.specs.Frames.{Line}
+use Rattle.frames.specs.declared.Line.{Line}
 use Rattle.frames.specs.declared.Frame.TheVariants.{Bad}
 use Rattle.std.specs.Prelude.{None}
 use Rattle.frames.specs.Frames.{number_from, frame_of, frame, first_of, first_line, numbered, line_with, empty_line, pushed, pushed_all, read_in, frame_in, first_in}
 
 -- a line that is no frame stays so
-bad-stays : {A : Type 0} (of : ℕ → ℕ → A) (bad : A) (text : List ℕ) → read_in of bad (pushed_all None text) ≡ bad
+bad-stays : {A : Type 0} (of : ℕ → ℕ → A) (bad : A) (n x : ℕ) (text : List ℕ) → read_in of bad (pushed_all (line_with false n x) text) ≡ bad
 unfolding pushed_all pushed
-bad-stays of bad [] = refl
-bad-stays of bad (c ∷ text) = bad-stays of bad text
+bad-stays of bad n x [] = refl
+bad-stays of bad n x (c ∷ text) = bad-stays of bad n x text
 
 -- n digits make a number below 2 ^ (4 n), so that one more of the first twelve loses nothing
 next_fits : (n x v : ℕ) → x < 2 ^ (4 * n) → v < 16 → 16 * x + v < 2 ^ (4 * (n + 1))
@@ -34,13 +34,13 @@ nothing-lost n x v m h =
     let l : x * 16 < 2 ^ 64 = omega (arith, h, p) in
     rw (mod-eq_of_lt l) (omega arith)
 
-push-digit : (n x c : ℕ) → n < 12 → x < 2 ^ (4 * n) → value_of c < 16 → pushed (line_with n x) c ≡ line_with (n + 1) (16 * x + value_of c)
+push-digit : (n x c : ℕ) → n < 12 → x < 2 ^ (4 * n) → value_of c < 16 → pushed (line_with true n x) c ≡ line_with true (n + 1) (16 * x + value_of c)
 unfolding pushed
-push-digit n x c m h v = rw (lt-ltb n 12 m, lt-ltb (value_of c) 16 v) (ap (line_with (n + 1)) (nothing-lost n x (value_of c) m h))
+push-digit n x c m h v = rw (lt-ltb n 12 m, lt-ltb (value_of c) 16 v) (ap (line_with true (n + 1)) (nothing-lost n x (value_of c) m h))
 
-push-other : {A : Type 0} (of : ℕ → ℕ → A) (bad : A) (n x c : ℕ) (text : List ℕ) → ltb n 12 && ltb (value_of c) 16 ≡ false → read_in of bad (pushed_all (pushed (line_with n x) c) text) ≡ bad
+push-other : {A : Type 0} (of : ℕ → ℕ → A) (bad : A) (n x c : ℕ) (text : List ℕ) → ltb n 12 && ltb (value_of c) 16 ≡ false → read_in of bad (pushed_all (pushed (line_with true n x) c) text) ≡ bad
 unfolding pushed
-push-other of bad n x c text e = rw e (bad-stays of bad text)
+push-other of bad n x c text e = rw e (bad-stays of bad n x text)
 
 -- more digits than any frame has
 numbered-long : {A : Type 0} (of : ℕ → ℕ → A) (bad : A) → ((n x : ℕ) → 12 < n → of n x ≡ bad) → (n x : ℕ) (text : List ℕ) → 12 < n → numbered of bad n (number_from x text) ≡ bad
@@ -52,7 +52,7 @@ numbered-long of bad long n x (c ∷ text) h =
     (λ e. rw e)
 
 -- "lines of any length": after n digits of number x, the text to come
-line-said : {A : Type 0} (of : ℕ → ℕ → A) (bad : A) → ((n x : ℕ) → 12 < n → of n x ≡ bad) → (n x : ℕ) (text : List ℕ) → n ≤ 12 → x < 2 ^ (4 * n) → read_in of bad (pushed_all (line_with n x) text) ≡ numbered of bad (n + length text) (number_from x text)
+line-said : {A : Type 0} (of : ℕ → ℕ → A) (bad : A) → ((n x : ℕ) → 12 < n → of n x ≡ bad) → (n x : ℕ) (text : List ℕ) → n ≤ 12 → x < 2 ^ (4 * n) → read_in of bad (pushed_all (line_with true n x) text) ≡ numbered of bad (n + length text) (number_from x text)
 unfolding number_from pushed_all pushed
 line-said of bad long n x [] m h = ap (λ (k : ℕ). of k x) (sym (add-zero n))
 line-said of bad long n x (c ∷ text) m h =

@@ -8,7 +8,7 @@ use Rattle.kind.specs.declared.SaveType.TheVariants.{None, Sram, Flash64, Eeprom
 use Rattle.frames.specs.declared.Frame.{Frame}
 use Rattle.frames.specs.declared.Frame.TheVariants.{SaveRead, SaveWrite, EepromRead, EepromWrite}
 use Rattle.frames.specs.declared.Frame.TheVariants.{BeginDma, TakeFlag, ChipState, Bad}
-use Rattle.frames.specs.declared.Digits.{Digits}
+use Rattle.frames.specs.declared.Line.{Line}
 
 -- "hexadecimal in upper case": the number that a line of digits is, or none
 unfoldable pub number_from : ℕ → List ℕ → Option ℕ
@@ -64,29 +64,26 @@ unfoldable pub first_line : List ℕ → FirstLine
 first_line line = numbered first_of std.None (length line) (number_from 0 line)
 
 -- a line read so far: the count of its digits and their number, while it can still be a frame
-abbrev pub Line : Type 0
-Line = std.Option Digits
-
-abbrev pub line_with : ℕ → ℕ → Line
-line_with count value = std.Some record { count = count; value = value }
+abbrev pub line_with : Bool → ℕ → ℕ → Line
+line_with good count value = record { good = good; count = count; value = value }
 
 abbrev pub empty_line : Line
-empty_line = line_with 0 0
+empty_line = line_with true 0 0
 
 unfoldable pub pushed : Line → ℕ → Line
-pushed std.None c = std.None
-pushed (std.Some d) c =
-    cond (ltb d.count 12 && ltb (value_of c) 16)
-    (line_with (d.count + 1) (d.value * 16 % 2 ^ 64 + value_of c))
-    std.None
+pushed l c =
+    cond l.good
+    (cond (ltb l.count 12 && ltb (value_of c) 16)
+    (line_with true (l.count + 1) (l.value * 16 % 2 ^ 64 + value_of c))
+    (line_with false l.count l.value))
+    l
 
 unfoldable pub pushed_all : Line → List ℕ → Line
 pushed_all l [] = l
 pushed_all l (c ∷ text) = pushed_all (pushed l c) text
 
 abbrev pub read_in : {A : Type 0} → (ℕ → ℕ → A) → A → Line → A
-read_in of bad std.None = bad
-read_in of bad (std.Some d) = of d.count d.value
+read_in of bad l = cond l.good (of l.count l.value) bad
 
 abbrev pub frame_in : Line → Frame
 frame_in l = read_in frame_of Bad l

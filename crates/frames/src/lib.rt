@@ -27,15 +27,13 @@ pub enum Frame {
     Bad,
 }
 
-// How many digits a line has so far, and their number.
+// A line of any length, read so far: the count of its digits and their number, while it can still be a frame.
 #[derive(Clone, Copy)]
-pub struct Digits {
+pub struct Line {
+    pub good: bool,
     pub count: u8,
     pub value: u64,
 }
-
-// A line of any length, read so far, while it can still be a frame.
-pub type Line = Option<Digits>;
 
 // Frames of 10, 12, 2 and 6 digits.
 fn ten_digits(x: u64) -> Frame
@@ -116,37 +114,44 @@ fn first_of(n: u8, x: u64) -> Option<SaveType>
 pub fn empty_line() -> Line
     ensures { result ≡ empty_line }
 {
-    Some(Digits { count: 0, value: 0 })
+    Line {
+        good: true,
+        count: 0,
+        value: 0,
+    }
 }
 
 // A line with one more character.
-#[tactic(auto, using(lists::proofs::Bools::tests), unfolding(crate::specs::Frames::pushed))]
 pub fn push(l: Line, c: u8) -> Line
     ensures { result ≡ pushed l c }
 {
-    let d = l?;
-    if 12 <= d.count {
-        return None;
+    if !l.good {
+        return l;
     }
-    let v = hex_text::digit(c)?;
-    Some(Digits {
-        count: d.count + 1,
-        value: (d.value << 4) + u64::from(v),
-    })
+    match hex_text::digit(c) {
+        Some(v) if l.count < 12 => Line {
+            count: l.count + 1,
+            value: (l.value << 4) + u64::from(v),
+            ..l
+        },
+        _ => Line { good: false, ..l },
+    }
 }
 
 pub fn frame_in(l: Line) -> Frame
     ensures { result ≡ frame_in l }
 {
-    match l {
-        Some(d) => frame_of(d.count, d.value),
-        None => Frame::Bad,
+    if l.good {
+        return frame_of(l.count, l.value);
     }
+    Frame::Bad
 }
 
 pub fn first_in(l: Line) -> Option<SaveType>
     ensures { result ≡ first_in l }
 {
-    let d = l?;
-    first_of(d.count, d.value)
+    if l.good {
+        return first_of(l.count, l.value);
+    }
+    None
 }

@@ -3,7 +3,7 @@ use native.Mathlib.Omega.{arith}
 use Rattle.frames.specs.Frames.{pushed_all, first_in}
 use Rattle.frames.proofs.Lines.{first_said}
 use Rattle.cuttrace_lib.proofs.Texts.{pushed_more, pushed-end}
-use Rattle.frames.specs.Frames.{Line}
+use Rattle.frames.specs.declared.Line.{Line}
 use Rattle.cuttrace_lib.proofs.setup.first_kind.Goals as goal
 
 pub loop-c-preserved : goal.loop-c-preserved
