@@ -28,6 +28,7 @@ pub enum Frame {
 }
 
 // A line of any length, read so far: the count of its digits and their number, while it can still be a frame.
+// Kept: `feed`, `finish` and `over` take any line so far, a bad one with its count and number too.
 #[derive(Clone, Copy)]
 pub struct Line {
     pub good: bool,
