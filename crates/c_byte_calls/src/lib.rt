@@ -17,7 +17,7 @@ use memory::NO_FILE;
 use part::Part;
 use refusal::Refusal;
 
-// Two functions of one text: with the usual part the ID words are one table by the kind, and with both tables the
+// USUAL makes two functions: with the usual part the ID words are one table by the kind, and with both tables the
 // compiler would leave the function out of `save_read`.
 #[tactic(auto, using(crate::proofs::ByteCalls::reading))]
 fn read_with<const USUAL: bool>(

@@ -1,5 +1,6 @@
 // The lines of a text as a list of calls.
-ghost use Rattle.std.specs.Prelude.{◌≡◌, [], ◌+◌, ◌*◌, ◌≤◌, ◌≢◌, length, take, slice_index, EachIndex, MatchOption};
+ghost use Rattle.std.specs.Prelude.{◌≡◌, [], ◌+◌, ◌*◌, ◌≤◌, ◌≢◌};
+ghost use Rattle.std.specs.Prelude.{length, take, slice_index, EachIndex, MatchOption};
 ghost use Rattle.carttrace_lib.specs.Trace.{lines_from};
 ghost use Rattle.cuttrace_lib.specs.Lines.{IsLineEnd, line_length, line_item, line_code, code_length, list_of};
 ghost use Rattle.cuttrace_lib.specs.Cuttrace.{longest_trace};

@@ -19,7 +19,7 @@ fn kept(e: Eeprom) -> EepromStep
 }
 
 // One bit of a number of 1, 2, 6, 14 or 64.
-#[tactic(auto, using(lists::proofs::Bools::tests, crate::proofs::Bits::put_in), unfolding(crate::specs::Eeprom::shift_in))]
+#[tactic(auto, using(crate::proofs::Bits::put_in), unfolding(crate::specs::Eeprom::shift_in))]
 fn shift_in(acc: u64, count: u8, length: u8, b: u64) -> Shifted
     requires { (count < 255) × (b < 2) }
     ensures { result ≡ shift_in acc count length b }

@@ -18,7 +18,7 @@ fn is_doubled(kind: SaveType, file: usize) -> bool
     kind == SaveType::Sram && 65536 <= file
 }
 
-// Whether the upper half is all FFh or equal to the lower one. Each loop ends at the first byte that decides.
+// Whether the upper half is all FFh or equal to the lower one. Each test ends at the first byte that decides.
 #[tactic(auto, using(crate::proofs::Halves::same_long), unfolding(crate::specs::Doubled::blank_or_copy, crate::specs::Doubled::lower_half, crate::specs::Doubled::upper_half))]
 fn blank_or_copy(file: &[u8]) -> bool
     requires { 65536 ≤ length file.now }

@@ -14,7 +14,8 @@ use refusal::Refusal;
 
 // Takes no memory; the contract holds for any memory.
 pub fn eeprom_begin_dma(cart: Cartridge, words: usize) -> Reply
-    ensures { (m : List ℕ) → (reply_from cart result, m) ≡ replied (step (eeprom_begin_dma words) [] (state cart m)) }
+    ensures { (m : List ℕ) →
+        (reply_from cart result, m) ≡ replied (step (eeprom_begin_dma words) [] (state cart m)) }
 {
     cart::ask_record(cart)?;
     let e = cart.chip.eeprom;

@@ -36,7 +36,8 @@ fn case(rt: &impl Runtime, path: &[u8]) -> io::Result<()> {
     run(rt, &text[..len])
 }
 
-// Kept: `case` and `main` are those of test_cases but for the room and `run`; one for both would take these as closures.
+// Kept: `case` and `main` are those of test_cases but for the room and `run`; one for both would take these as
+// closures.
 fn main(rt: HostRuntime) -> io::Result<()> {
     let mut path = named_files::buffer();
     for k in 1..usize::MAX {

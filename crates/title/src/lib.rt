@@ -4,7 +4,8 @@
 
 mod utf8;
 
-ghost use Rattle.std.specs.Prelude.{◌≡◌, ◌*◌, ◌<◌, ◌≤◌, length, take, slice_index, EachIndex, MatchOption};
+ghost use Rattle.std.specs.Prelude.{◌≡◌, ◌*◌, ◌<◌, ◌≤◌};
+ghost use Rattle.std.specs.Prelude.{length, take, slice_index, EachIndex, MatchOption};
 ghost use Rattle.image.specs.Image.{answer_of};
 ghost use Rattle.title.specs.Title.{showing, replaced, trimmed, header_title, IsLastInUse};
 
