@@ -1,6 +1,8 @@
 // `eeprom_begin_dma`, `eeprom_write` and `eeprom_read` on the bytes of a record. In front of question 2 is the
-// quick test; a function `_any` is for every record. It is called at two places, so that the compiler leaves it out
-// of line.
+// quick test; a function `_any` is for every record. It is called last and at two places, so that the compiler
+// leaves it out of line and the quick way pays nothing for it.
+// A refusal becomes the number that C is returned before the last call ends, in `_any` and `write_valid`: made after it,
+// the number would cost the jump to it (a byte read of a named part took 1.2 times as long).
 
 #![tactic(auto)]
 
@@ -33,23 +35,23 @@ fn dma_valid(cart: &mut RecordBytes, words: u32) -> Result<(), Refusal>
 }
 
 #[tactic(auto, using(c_record::proofs::Calls::no_record))]
-fn dma_any(cart: &mut RecordBytes, words: u32) -> Result<(), Refusal>
-    ensures { (m : List ℕ) → (number_of result, cart.new, m) ≡ announces words cart.old m }
+fn dma_any(cart: &mut RecordBytes, words: u32) -> u32
+    ensures { (m : List ℕ) → (result, cart.new, m) ≡ announces words cart.old m }
 {
     if !c_record::is_record(cart) {
-        return Err(Refusal::Record);
+        return out_params::status(Err(Refusal::Record));
     }
-    dma_valid(cart, words)
+    out_params::status(dma_valid(cart, words))
 }
 
 pub fn eeprom_begin_dma(cart: &mut RecordBytes, words: u32) -> u32
     ensures { (m : List ℕ) → (result, cart.new, m) ≡ announces words cart.old m }
 {
     if !quick_tests::known(cart) {
-        return out_params::status(dma_any(cart, words));
+        return dma_any(cart, words);
     }
     if !quick_tests::serial_usual(cart) {
-        return out_params::status(dma_any(cart, words));
+        return dma_any(cart, words);
     }
     out_params::status(dma_valid(cart, words))
 }
@@ -80,7 +82,7 @@ fn turn_in(
 }
 
 #[tactic(auto, using(crate::proofs::SerialCalls::bits_in))]
-fn write_valid(
+fn take_bit(
     cart: &mut RecordBytes,
     memory: &mut [u8],
     tallies: &mut [u16],
@@ -117,6 +119,21 @@ fn write_valid(
     }
 }
 
+fn write_valid(
+    cart: &mut RecordBytes,
+    memory: &mut [u8],
+    tallies: &mut [u16],
+    value: u16,
+    changed: &mut u32,
+) -> u32
+    requires { Valid cart.old }
+    ensures { (result, cart.new, memory.new, tallies.new, changed.new)
+        ≡ takes_bit value cart.old memory.old
+        tallies.old changed.old }
+{
+    out_params::status(take_bit(cart, memory, tallies, value, changed))
+}
+
 #[tactic(auto, using(c_record::proofs::Calls::no_record))]
 fn write_any(
     cart: &mut RecordBytes,
@@ -124,13 +141,13 @@ fn write_any(
     tallies: &mut [u16],
     value: u16,
     changed: &mut u32,
-) -> Result<(), Refusal>
-    ensures { (number_of result, cart.new, memory.new, tallies.new, changed.new)
+) -> u32
+    ensures { (result, cart.new, memory.new, tallies.new, changed.new)
         ≡ takes_bit value cart.old memory.old
         tallies.old changed.old }
 {
     if !c_record::is_record(cart) {
-        return Err(Refusal::Record);
+        return out_params::status(Err(Refusal::Record));
     }
     write_valid(cart, &mut memory[..], &mut tallies[..], value, changed)
 }
@@ -147,12 +164,12 @@ pub fn eeprom_write(
         tallies.old changed.old }
 {
     if !quick_tests::known(cart) {
-        return out_params::status(write_any(cart, memory, tallies, value, changed));
+        return write_any(cart, memory, tallies, value, changed);
     }
     if !quick_tests::serial_usual(cart) {
-        return out_params::status(write_any(cart, memory, tallies, value, changed));
+        return write_any(cart, memory, tallies, value, changed);
     }
-    out_params::status(write_valid(cart, memory, tallies, value, changed))
+    write_valid(cart, memory, tallies, value, changed)
 }
 
 #[tactic(auto, using(crate::proofs::SerialCalls::bits_out))]
@@ -181,14 +198,14 @@ fn read_valid(cart: &mut RecordBytes, memory: &[u8], bit: &mut u32) -> Result<()
 }
 
 #[tactic(auto, using(c_record::proofs::Calls::no_record))]
-fn read_any(cart: &mut RecordBytes, memory: &[u8], bit: &mut u32) -> Result<(), Refusal>
-    ensures { (number_of result, cart.new, memory.now, bit.new)
+fn read_any(cart: &mut RecordBytes, memory: &[u8], bit: &mut u32) -> u32
+    ensures { (result, cart.new, memory.now, bit.new)
         ≡ gives_bit cart.old memory.now bit.old }
 {
     if !c_record::is_record(cart) {
-        return Err(Refusal::Record);
+        return out_params::status(Err(Refusal::Record));
     }
-    read_valid(cart, &memory[..], bit)
+    out_params::status(read_valid(cart, &memory[..], bit))
 }
 
 pub fn eeprom_read(cart: &mut RecordBytes, memory: &[u8], bit: &mut u32) -> u32
@@ -196,10 +213,10 @@ pub fn eeprom_read(cart: &mut RecordBytes, memory: &[u8], bit: &mut u32) -> u32
         ≡ gives_bit cart.old memory.now bit.old }
 {
     if !quick_tests::known(cart) {
-        return out_params::status(read_any(cart, memory, bit));
+        return read_any(cart, memory, bit);
     }
     if !quick_tests::serial_usual(cart) {
-        return out_params::status(read_any(cart, memory, bit));
+        return read_any(cart, memory, bit);
     }
     out_params::status(read_valid(cart, memory, bit))
 }

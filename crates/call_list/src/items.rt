@@ -23,17 +23,23 @@ pub fn item_in(l: &[u8]) -> Item
     ensures value { result ≡ item_in l.now }
     ensures result_in_bounds { (item_length result ≤ length l.now) × (item_room result ≤ 4294967300) }
 {
-    match l {
-        &[1, b3, b2, b1, b0, ..] => Item::SaveRead(lists::low32(b0, b1, b2, b3)),
-        &[2, b3, b2, b1, b0, value, ..] => Item::SaveWrite(lists::low32(b0, b1, b2, b3), value),
-        &[3, ..] => Item::EepromRead,
-        &[4, b1, b0, ..] => Item::EepromWrite(lists::low16(b0, b1)),
-        &[5, b1, b0, ..] => Item::BeginDma(lists::low16(b0, b1)),
-        &[6, ..] => Item::TakeFlag,
-        &[7, ..] => Item::ChipState,
-        &[8, b3, b2, b1, b0, ref file @ ..] => load(lists::low32(b0, b1, b2, b3) as usize, file),
-        &[9, b3, b2, b1, b0, ..] => Item::SaveData(lists::low32(b0, b1, b2, b3) as usize),
-        &[10, ..] => Item::Cut,
+    match (l[0], l) {
+        (1, &[_, b3, b2, b1, b0, ..]) => Item::SaveRead(lists::low32(b0, b1, b2, b3)),
+        (2, &[_, b3, b2, b1, b0, value, ..]) => Item::SaveWrite(
+            lists::low32(b0, b1, b2, b3),
+            value,
+        ),
+        (3, _) => Item::EepromRead,
+        (4, &[_, b1, b0, ..]) => Item::EepromWrite(lists::low16(b0, b1)),
+        (5, &[_, b1, b0, ..]) => Item::BeginDma(lists::low16(b0, b1)),
+        (6, _) => Item::TakeFlag,
+        (7, _) => Item::ChipState,
+        (8, &[_, b3, b2, b1, b0, ref file @ ..]) => load(
+            lists::low32(b0, b1, b2, b3) as usize,
+            file,
+        ),
+        (9, &[_, b3, b2, b1, b0, ..]) => Item::SaveData(lists::low32(b0, b1, b2, b3) as usize),
+        (10, _) => Item::Cut,
         _ => Item::Bad,
     }
 }

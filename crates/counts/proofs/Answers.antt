@@ -3,15 +3,15 @@ use mathlib.Core.Path.{◌≡◌, refl, sym, ap, ap₂, ◌∙◌}
 use mathlib.Core.Bool.{Bool, true, false, not}
 use mathlib.Core.List.{List, [], ◌∷◌, ◌++◌}
 use mathlib.Core.Option.{Option, none, some}
-use Prim.Native.Nat.{ℕ, zero, suc, ◌+◌, ◌*◌, ◌<◌}
+use Prim.Native.Nat.{ℕ, zero, suc, ◌+◌, ◌*◌, ◌≤◌, ◌<◌}
 use native.Mathlib.Omega.{arith}
 use Rattle.std.proofs.Common.{Option as Found, None, Some}
 use Rattle.std.proofs.lemmas.Iterator.Adapters.{position_from-zero}
-use Rattle.std.specs.List.{list_all, position, position_from}
+use Rattle.std.specs.List.{position, position_from}
 use lib.Dec.{eqb}
 use lib.ListN.{length, take, drop, replicate, length-drop, take-append-drop}
 use lib.Seq.{length-take-le}
-use borrow.Author.Tests.{eqb-true, eqb-false}
+use borrow.Author.Tests.{ne_eqb, eqb-true, eqb-false}
 use Rattle.lists.proofs.Bools.{cases, and_left, and_right}
 use Rattle.counts.specs.Counts.{used}
 use Rattle.counts.specs.Tallies.{tallies_of, blank, blank_memory, next, first_in_use, first_used, stretch_of, none_in_use, in_use_number}
@@ -138,8 +138,23 @@ pub first-number : {r : Found ℕ} (ts : List ℕ) → r ≡ position in_use ts 
 first-number ts e =
     ap number (e ∙ position_from-zero in_use ts) ∙ position-number 0 ts ∙ ap in_use_number (ahead-0 (first_in_use ts))
 
--- and whether it finds none
-pub all-0 : (ts : List ℕ) → list_all (λ t. eqb t 0) ts ≡ blank ts
-unfolding blank
-all-0 [] = refl
-all-0 (t ∷ ts) = rw (all-0 ts)
+-- no stretch has the number that says that there is none
+abbrev Within : ℕ → Option ℕ → Type 0
+Within n none = Unit
+Within n (some k) = k < n
+
+within-next : (n : ℕ) (o : Option ℕ) → Within n o → Within (suc n) (next o)
+within-next n none w = tt
+within-next n (some k) w = omega arith
+
+within : (ts : List ℕ) → Within (length ts) (first_in_use ts)
+unfolding first_in_use
+within [] = tt
+within (t ∷ ts) = cases (eqb t 0) (λ e. rw e (within-next (length ts) (first_in_use ts) (within ts))) (λ e. rw e (omega arith))
+
+number-none : (n : ℕ) (o : Option ℕ) → n ≤ 32 → Within n o → eqb (in_use_number o) none_in_use ≡ is_none o
+number-none n none h w = refl
+number-none n (some k) h w = ne_eqb k none_in_use (λ e. absurd (omega arith))
+
+pub blank-number : (ts : List ℕ) → length ts ≤ 32 → eqb (in_use_number (first_in_use ts)) none_in_use ≡ blank ts
+blank-number ts h = number-none (length ts) (first_in_use ts) h (within ts) ∙ sym (blank_none ts)

@@ -122,7 +122,10 @@ pub fn begin_dma(words: usize, e: Eeprom) -> Eeprom
 pub fn dma_allowed(words: usize, e: Eeprom) -> bool
     ensures { result ≡ (dma_question words e).yes }
 {
-    !tells6(words) || !phases::is_address(e.phase) || e.count < 6
+    if !tells6(words) {
+        return true;
+    }
+    !phases::is_address(e.phase) || e.count < 6
 }
 
 // A read is over or abandoned.

@@ -29,11 +29,20 @@ pub fn all_ff(s: &[u8]) -> bool
     s.iter().all(|b| *b == 0xFF)
 }
 
-// Whether s begins with p.
+// Whether s begins with p. The first byte is tested before the others, since a search mostly ends at it.
 pub fn begins(s: &[u8], p: &[u8]) -> bool
     ensures { result ≡ begins p.now s.now }
 {
-    s.starts_with(p)
+    if p.is_empty() {
+        return true;
+    }
+    if s.is_empty() {
+        return false;
+    }
+    if s[0] != p[0] {
+        return false;
+    }
+    s[1..].starts_with(&p[1..])
 }
 
 // A Boolean as a number.

@@ -1,4 +1,5 @@
 // Digits to bytes.
+ghost use Rattle.std.specs.Prelude.{◌≤◌, length, IfSome};
 
 // The byte of two digits, if both characters are digits.
 pub fn pair(high: u8, low: u8) -> Option<u8> {
@@ -6,7 +7,9 @@ pub fn pair(high: u8, low: u8) -> Option<u8> {
 }
 
 // The bytes of a text of digits, in a room; none if it is no such text or too long.
-pub fn decode<'a>(room: &'a mut [u8], text: &[u8]) -> Option<&'a [u8]> {
+pub fn decode<'a>(room: &'a mut [u8], text: &[u8]) -> Option<&'a [u8]>
+    ensures { IfSome result (λ bytes. length bytes.now ≤ length room.old) }
+{
     let (pairs, rest) = text.as_chunks::<2>();
     if !rest.is_empty() || room.len() < pairs.len() {
         return None;

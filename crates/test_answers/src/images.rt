@@ -15,8 +15,7 @@ fn opened(image: &[u8], memory: &mut [u8], tallies: &mut [u16]) -> Reply {
 // Kind, header check, CRC, `save_size`, `eeprom_window_start`, and the title with its length in front.
 fn print_image(image: &[u8], cart: Cartridge, out: &mut Output) -> usize {
     let mut answer = [0; 51];
-    let title = title::header_title(image, &mut answer[15..]).unwrap_or(0);
-    let title = title.min(36) as u8;
+    let title = title::header_title(image, &mut answer[15..]).unwrap_or(0) % 256;
     let check = image::header_checksum(image).unwrap_or(0);
     let crc = crc::rom_crc(image).unwrap_or(0);
     let size = (file_sizes::save_size_of(image) % 4294967296) as u32;
@@ -26,8 +25,9 @@ fn print_image(image: &[u8], cart: Cartridge, out: &mut Output) -> usize {
     answer[2..6].copy_from_slice(&crc.to_be_bytes());
     answer[6..10].copy_from_slice(&size.to_be_bytes());
     answer[10..14].copy_from_slice(&window.to_be_bytes());
-    answer[14] = title;
-    frames::print_line(out, 0, &answer[..15 + usize::from(title)])
+    answer[14] = title as u8;
+    let end = (15 + title as usize).min(51);
+    frames::print_line(out, 0, &answer[..end])
 }
 
 // Opens the image and asks it; memory and tallies are not kept.

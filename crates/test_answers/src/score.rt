@@ -3,7 +3,7 @@ use crate::digits::pair;
 use std::io;
 
 // How many lines there were, how many of them differ, and how many have an answer, by the frame's number.
-#[derive(Drop)]
+#[derive(Clone, Copy)]
 pub struct Score {
     pub lines: u64,
     pub differ: u64,

@@ -7,7 +7,7 @@ use std::fmt;
 // Whether the memory is blank, and the first stretch in use.
 #[derive(Clone, Copy, PartialEq, Eq)]
 pub struct Stretches {
-    blank: bool,
+    blank: u32,
     // Kept: NONE_IN_USE for none, as `state_calls::first_in_use` answers.
     first: u32,
 }
@@ -15,7 +15,7 @@ pub struct Stretches {
 // As a line has it.
 impl fmt::Display for Stretches {
     fn fmt<W: fmt::Write>(&self, f: &mut fmt::Formatter<W>) -> fmt::Result {
-        let blank = u8::from(self.blank);
+        let blank = self.blank;
         let first = self.first;
         write!(f, "00{blank:02X}{first:08X}")
     }
@@ -30,7 +30,7 @@ pub fn by_reading(cart: Cartridge, memory: &[u8]) -> Stretches {
     let n = kind::memory_size(cart.kind).min(memory.len());
     let first = first_used(&memory[..n]);
     Stretches {
-        blank: first.is_none(),
+        blank: u32::from(first.is_none()),
         first: first.unwrap_or(NONE_IN_USE),
     }
 }
@@ -38,7 +38,7 @@ pub fn by_reading(cart: Cartridge, memory: &[u8]) -> Stretches {
 pub fn by_tallies(cart: Cartridge, tallies: &[u16]) -> Result<Stretches, Refusal> {
     let n = kind::tally_count(cart.kind).min(tallies.len());
     Ok(Stretches {
-        blank: state_calls::is_blank(cart, &tallies[..n])? != 0,
+        blank: state_calls::is_blank(cart, &tallies[..n])?,
         first: state_calls::first_in_use(cart, &tallies[..n])?,
     })
 }

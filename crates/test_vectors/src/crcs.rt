@@ -1,9 +1,11 @@
 // Vectors of the CRC. Byte i of the bytes is (7 × i + i / 256) mod 256.
-ghost use Rattle.std.specs.Prelude.{◌+◌, ◌≤◌, length};
+ghost use Rattle.std.specs.Prelude.{◌≡◌, ◌+◌, ◌≤◌, length};
 
 use std::io;
 
-fn make_bytes(s: &mut [u8]) {
+fn make_bytes(s: &mut [u8])
+    ensures { length s.new ≡ length s.old }
+{
     for (i, byte) in s.iter_mut().enumerate() {
         *byte = ((i % 256 * 7 + i / 256) % 256) as u8;
     }
@@ -53,7 +55,8 @@ fn fed_in_parts(s: &[u8], n: usize) -> u32
     for part in s.chunks(n) {
         c = crc::crc_feed(c, part);
     }
-    crc::crc_finish(c)
+    // Parts that end with the bytes are followed by one of no bytes.
+    crc::crc_finish(crc::crc_feed(c, b""))
 }
 
 fn long_crcs(rt: &impl Print, s: &[u8]) -> io::Result<()>

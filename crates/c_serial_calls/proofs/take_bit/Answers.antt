@@ -1,4 +1,4 @@
--- `c_serial_calls::write_valid` meets its contract. Assumes nothing.
+-- `c_serial_calls::take_bit` meets its contract. Assumes nothing.
 use mathlib.Core.Path.{ap, ◌∙◌}
 use native.Mathlib.Omega.{arith}
 use Rattle.kind.specs.Kind.{memory_size, tally_count, uses_eeprom}
@@ -9,7 +9,7 @@ use Rattle.c_record.specs.RecordBytes.{cart_of}
 use Rattle.lists.proofs.Bools.{granted}
 use Rattle.eeprom.proofs.Fits.{turned-fits}
 use Rattle.c_serial_calls.proofs.SerialCalls.{write-more, write-turn}
-use Rattle.c_serial_calls.proofs.write_valid.Goals as goal
+use Rattle.c_serial_calls.proofs.take_bit.Goals as goal
 
 pub shift-requires : goal.shift-requires
 shift-requires c =
