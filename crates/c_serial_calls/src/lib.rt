@@ -1,8 +1,8 @@
 // `eeprom_begin_dma`, `eeprom_write` and `eeprom_read` on the bytes of a record. In front of question 2 is the
 // quick test; a function `_any` is for every record. It is called last and at two places, so that the compiler
 // leaves it out of line and the quick way pays nothing for it.
-// A refusal becomes the number that C is returned before the last call ends, in `_any` and `write_valid`: made after it,
-// the number would cost the jump to it (a byte read of a named part took 1.2 times as long).
+// A refusal becomes the number that C is returned before the last call ends, in `_any` and `write_valid`: made after
+// it, the number would cost the jump to it (a bit out in ID mode took 1.15 times as long).
 
 #![tactic(auto)]
 

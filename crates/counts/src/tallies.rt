@@ -34,8 +34,8 @@ pub fn first_in_use(tallies: &[u16]) -> u32
     }
 }
 
-// Kept: by the search, since `all` and a sum were tried and are slower, the one where only the last stretch is in use, the
-// other where the first one is.
+// Kept: by the search. `all` was tried and is slower where only the last stretch is in use, a sum where the first one
+// is.
 pub fn is_blank(tallies: &[u16]) -> bool
     requires { length tallies.now ≤ 32 }
     ensures { result ≡ blank tallies.now }
